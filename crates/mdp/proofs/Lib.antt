@@ -1,0 +1,6 @@
+pub mod SumLaws
+pub mod Best
+pub mod Cases
+pub mod Bound
+pub mod Figures
+pub mod Demand

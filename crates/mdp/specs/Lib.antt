@@ -1,0 +1,5 @@
+pub mod Sums
+pub mod Mdp
+pub mod Kinds
+pub mod Graph
+pub mod Demand
