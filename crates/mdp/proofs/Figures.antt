@@ -101,12 +101,14 @@ module _ (M : Mdp) (G : Graph) (S : ℕ) where
     near zero = by-cases zero (λ n l e s i. rw (B .starts n l e) (omega arith))
     near (suc k) = by-cases (suc k) (λ n l e s i. near-expanded k n l e s i (near k))
 
--- Rounding up.
-module _ (D : ℕ) (p : 0 < D) where
-  up-enough : (x : ℕ) → x ≤ D * ((x + (D - 1)) / D)
+-- Rounding up loses nothing, and adds less than D.
+module _ (M : Mdp) (G : Graph) (S : ℕ) (p : 0 < M .total) where
+  open Mdp M using (total as D)
+
+  up-enough : (x : ℕ) → x ≤ D * up M G S x
   up-enough x = omega (arith, lt-div-mul-add {a = x + (D - 1)} p)
 
-  up-close : (x : ℕ) → (x + (D - 1)) / D * D ≤ x + 1 * D
+  up-close : (x : ℕ) → up M G S x * D ≤ x + 1 * D
   up-close x = omega (arith, div-mul-le-self (x + (D - 1)) D)
 
 module _ (M : Mdp) (F : Fair M) (G : Graph) (S : ℕ) (In : ℕ → M .State → Type 0) (L : Labelled M G In) where
@@ -118,7 +120,7 @@ module _ (M : Mdp) (F : Fair M) (G : Graph) (S : ℕ) (In : ℕ → M .State →
     waitings = λ k n l e. omega (arith, round-waiting M G S S (up M G S) k n e);
     targets = λ k n l e. omega (arith, round-target M G S S (up M G S) k n e);
     covereds = λ k n l e. omega (arith, round-covered M G S S (up M G S) k n e (L .covereds n l e .open-cover));
-    expandeds = λ k n l e j h. rw (round-suc M G S S (up M G S) k n e) (le-trans (greatest-above (edges n) (along M G (figure M G S k) n) j h) (up-enough D (F .positive) _));
+    expandeds = λ k n l e j h. rw (round-suc M G S S (up M G S) k n e) (le-trans (greatest-above (edges n) (along M G (figure M G S k) n) j h) (up-enough M G S (F .positive) _));
   }
 
   -- The figure is never below the best chance, whether nodes wait or not.
@@ -132,7 +134,7 @@ module _ (M : Mdp) (F : Fair M) (G : Graph) (S : ℕ) (In : ℕ → M .State →
       targets = λ k n l e. round-target M G S S (up M G S) k n e;
       covereds = λ k n l e. round-covered M G S S (up M G S) k n e (L .covereds n l e .open-cover);
       starts = λ n l e. round-zero M G S S (up M G S) n e;
-      expandeds = λ k n l e. rw (round-suc M G S S (up M G S) k n e) (up-close D (F .positive) _);
+      expandeds = λ k n l e. rw (round-suc M G S S (up M G S) k n e) (up-close M G S (F .positive) _);
     }
 
     -- With no node waiting, the figure exceeds the best chance by at most a unit for each round.
