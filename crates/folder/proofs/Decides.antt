@@ -1,0 +1,89 @@
+-- A test decides a rule: it passes if and only if the rule holds. One law for each connective.
+-- Assumes nothing.
+use Prim.Native.Nat.{ℕ, _≤_, _<_}
+use mathlib.Core.Path.{_≡_, refl, sym, ap, _∙_, subst}
+use mathlib.Core.Bool.{Bool, true, false, not, _&&_, _||_, false≢true}
+use mathlib.Core.List.{List, [], _∷_}
+use borrow.Author.Tests.{ltb-true, leb-true, eqb-true, lt-ltb, le-leb, eq-eqb}
+use lib.Dec.{T, ltb, leb, eqb}
+use lib.IntN.{ℤ}
+use lib.Signed.{leZ, _≤ℤ_}
+use Rattle.folder.specs.Pick.{pick, implies}
+use Rattle.folder.specs.Scan.{firstBad, all}
+use Rattle.folder.specs.Tab.{sameList}
+use Rattle.folder.proofs.ScanLaws.{found, all-found}
+
+pub record Decides (P : Type 0) (b : Bool) : Type 0 where
+  pub yes : b ≡ true → P
+  pub no : P → b ≡ true
+
+pub passes : (b : Bool) → Decides (b ≡ true) b
+passes b = record { yes = λ e. e; no = λ e. e }
+
+fails-by : (b : Bool) → (b ≡ false → not b ≡ true) × (not b ≡ true → b ≡ false)
+fails-by true = ((λ e. absurd (false≢true (sym e))), λ e. absurd (false≢true e))
+fails-by false = ((λ e. refl), λ e. refl)
+
+pub fails : (b : Bool) → Decides (b ≡ false) (not b)
+fails b = record { yes = fails-by b .1; no = fails-by b .0 }
+
+pub at-most : (a b : ℕ) → Decides (a ≤ b) (leb a b)
+at-most a b = record { yes = leb-true a b; no = le-leb a b }
+
+pub below : (a b : ℕ) → Decides (a < b) (ltb a b)
+below a b = record { yes = ltb-true a b; no = lt-ltb a b }
+
+pub same : (a b : ℕ) → Decides (a ≡ b) (eqb a b)
+same a b = record { yes = eqb-true a b; no = eq-eqb a b }
+
+T-is : (b : Bool) → T b → b ≡ true
+T-is true t = refl
+T-is false t = absurd t
+
+is-T : (b : Bool) → b ≡ true → T b
+is-T true e = tt
+is-T false e = absurd (false≢true e)
+
+pub at-mostZ : (a b : ℤ) → Decides (a ≤ℤ b) (leZ a b)
+at-mostZ a b = record { yes = λ e. record { le = is-T (leZ a b) e }; no = λ h. T-is (leZ a b) (h .le) }
+
+pub and-both : (a b : Bool) → (a && b) ≡ true → (a ≡ true) × (b ≡ true)
+and-both true b e = (refl, e)
+and-both false b e = absurd (false≢true e)
+
+pub both-and : (a b : Bool) → a ≡ true → b ≡ true → (a && b) ≡ true
+both-and true b p q = q
+both-and false b p q = p
+
+infixr 20 _∧also_
+pub _∧also_ : {P Q : Type 0} {a b : Bool} → Decides P a → Decides Q b → Decides (P × Q) (a && b)
+_∧also_ {a = a} {b = b} p q =
+    record { yes = λ e. let h = and-both a b e in (p .yes (h .0), q .yes (h .1)); no = λ h. both-and a b (p .no (h .0)) (q .no (h .1)) }
+
+implies-by : (a b : Bool) → implies a b ≡ true → a ≡ true → b ≡ true
+implies-by true b e h = e
+implies-by false b e h = absurd (false≢true h)
+
+by-implies : (a b : Bool) → (a ≡ true → b ≡ true) → implies a b ≡ true
+by-implies true b f = f refl
+by-implies false b f = refl
+
+pub whenever : {P Q : Type 0} {a b : Bool} → Decides P a → Decides Q b → Decides (P → Q) (implies a b)
+whenever {a = a} {b = b} p q = record { yes = λ e h. q .yes (implies-by a b e (p .no h)); no = λ f. by-implies a b (λ h. q .no (f (p .yes h))) }
+
+pub everywhere : (n : ℕ) {P : ℕ → Type 0} {ok : ℕ → Bool} → ((k : ℕ) → k < n → Decides (P k) (ok k)) → Decides ((k : ℕ) → k < n → P k) (all ok n)
+everywhere n {ok = ok} d = record {
+  yes = λ e k l. d k l .yes (found ok n .before k (rw (eqb-true (firstBad ok n) n e) l));
+  no = λ f. eq-eqb (firstBad ok n) n (all-found ok n (λ k l. d k l .no (f k l)));
+}
+
+-- A rule put in other words.
+pub reworded : {P Q : Type 0} {b : Bool} → (P → Q) → (Q → P) → Decides P b → Decides Q b
+reworded f g d = record { yes = λ e. f (d .yes e); no = λ q. d .no (g q) }
+
+pub same-lists : (x y : List ℕ) → Decides (x ≡ y) (sameList x y)
+unfolding sameList
+same-lists [] [] = record { yes = λ e. refl; no = λ e. refl }
+same-lists [] (y ∷ ys) = record { yes = λ e. absurd (false≢true e); no = λ e. cc }
+same-lists (x ∷ xs) [] = record { yes = λ e. absurd (false≢true e); no = λ e. cc }
+same-lists (x ∷ xs) (y ∷ ys) = reworded (λ h i. h .0 i ∷ h .1 i) (λ e. (cc, cc)) (same x y ∧also same-lists xs ys)

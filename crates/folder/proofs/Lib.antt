@@ -1,0 +1,4 @@
+pub mod Decides
+pub mod ScanLaws
+pub mod TabLaws
+pub mod TableLaws

@@ -1,0 +1,139 @@
+-- What an outcome says, both ways: accepted where every row holds, refused at the first broken place. And the laws by
+-- which a chain of rows in the code is proved.
+-- Assumes nothing.
+use Prim.Native.Nat.{ℕ, _≤_, _<_}
+use mathlib.Core.Path.{_≡_, refl, sym, ap, _∙_, subst}
+use mathlib.Core.Logic.{_⊎_, inl, inr, ⊎-elim}
+use mathlib.Core.Bool.{Bool, true, false, false≢true}
+use mathlib.Core.List.{List, [], _∷_, _++_}
+use borrow.Author.Tests.{lt-ltb, le-ltb}
+use native.Mathlib.Nat.{eq-or-lt-of-le}
+use native.Mathlib.Omega.{arith}
+use Rattle.folder.specs.Scan.{firstBad}
+use Rattle.folder.specs.Table.{refused, numberOf, placeOf, Row, Rule, allRules, firstBroken, outcome, Holds, AllHold, none, more, BrokenAt, Broken, BrokenRule}
+use Rattle.folder.specs.declared.Outcome.{Outcome}
+use Rattle.folder.specs.declared.Outcome.the-variants.{Accepted, Refused}
+use Rattle.folder.proofs.ScanLaws.{found, all-found, found-at}
+
+-- ---- a chain of rows in the code, one law for each way
+module _ (r : Row) (rs : List Row) (p : ℕ) (e : p ≡ firstBad (r .ok) (r .count)) where
+  pub row-refused : p < r .count → outcome (r ∷ rs) ≡ refused (r .number p) p
+  unfolding outcome
+  row-refused l = rw (← e) (simp (lt-ltb p (r .count) l))
+
+  pub row-passed : r .count ≤ p → outcome (r ∷ rs) ≡ outcome rs
+  unfolding outcome
+  row-passed l = rw (← e) (simp (le-ltb p (r .count) l))
+
+-- Of the rows of `whole`, those before rs hold.
+pub record Rest (whole rs : List Row) : Type 0 where
+  pub same : outcome whole ≡ outcome rs
+
+pub no-row : (whole : List Row) → Rest whole whole
+no-row whole = record { same = refl }
+
+pub all-rows : {whole : List Row} → Rest whole [] → Accepted ≡ outcome whole
+unfolding outcome
+all-rows h = sym (h .same)
+
+-- The rest is what another function answers.
+pub rest-of : {whole rs : List Row} {o : Outcome} → Rest whole rs → o ≡ outcome rs → o ≡ outcome whole
+rest-of h e = e ∙ sym (h .same)
+
+-- The code has n places, and its scan answered p.
+module _ {whole : List Row} {r : Row} {rs : List Row} (h : Rest whole (r ∷ rs)) {n p : ℕ} (q : n ≡ r .count) (e : p ≡ firstBad (r .ok) n) where
+  pub refuses : p < n → refused (r .number p) p ≡ outcome whole
+  refuses l = sym (h .same ∙ row-refused r rs p (e ∙ ap (firstBad (r .ok)) q) (omega arith))
+
+  pub row-holds : n ≤ p → Rest whole rs
+  row-holds l = record { same = h .same ∙ row-passed r rs p (e ∙ ap (firstBad (r .ok)) q) (omega arith) }
+
+-- ---- what an outcome says
+abbrev first : Row → ℕ
+first r = firstBad (r .ok) (r .count)
+
+abbrev Ways : Row → Type 0
+Ways r = (first r ≡ r .count) ⊎ (first r < r .count)
+
+ways : (r : Row) → Ways r
+ways r = eq-or-lt-of-le (found (r .ok) (r .count) .within)
+
+holds-of : (r : Row) → first r ≡ r .count → Holds r
+holds-of r q = record { at = λ k l. found (r .ok) (r .count) .before k (rw q l) }
+
+passed-of : (r : Row) (rs : List Row) → first r ≡ r .count → outcome (r ∷ rs) ≡ outcome rs
+passed-of r rs q = row-passed r rs (first r) refl (omega arith)
+
+broken-of : (r : Row) → first r < r .count → BrokenAt r (r .number (first r)) (first r)
+broken-of r l =
+    let f = found (r .ok) (r .count) in
+    record { place = l; number = refl; broken = f .broken l; before = f .before }
+
+refused-of : (r : Row) (rs : List Row) → first r < r .count → outcome (r ∷ rs) ≡ refused (r .number (first r)) (first r)
+refused-of r rs l = row-refused r rs (first r) refl l
+
+pub not-both : {A : Type 0} {o : Outcome} {n p : ℕ} → o ≡ Accepted → o ≡ refused n p → A
+not-both e f = let z : _≡_ {A = ℕ} 0 1 = cc in absurd (omega arith)
+
+accepted-row : (r : Row) (rs : List Row) → Ways r → outcome (r ∷ rs) ≡ Accepted → Holds r × (outcome rs ≡ Accepted)
+accepted-row r rs (inl q) e = (holds-of r q, sym (passed-of r rs q) ∙ e)
+accepted-row r rs (inr l) e = not-both e (refused-of r rs l)
+
+pub accepted-holds : (rs : List Row) → outcome rs ≡ Accepted → AllHold rs
+accepted-holds [] e = none
+accepted-holds (r ∷ rs) e = let h = accepted-row r rs (ways r) e in more (h .0) (accepted-holds rs (h .1))
+
+passes : (r : Row) (rs : List Row) → Holds r → outcome (r ∷ rs) ≡ outcome rs
+passes r rs h = passed-of r rs (all-found (r .ok) (r .count) (h .at))
+
+pub holds-accepted : {rs : List Row} → AllHold rs → outcome rs ≡ Accepted
+unfolding outcome
+holds-accepted none = refl
+holds-accepted (more {r = r} {rs = rs} h t) = passes r rs h ∙ holds-accepted t
+
+refused-row : (r : Row) (rs : List Row) (n p : ℕ) → Ways r → outcome (r ∷ rs) ≡ refused n p → BrokenAt r n p ⊎ (Holds r × (outcome rs ≡ refused n p))
+refused-row r rs n p (inl q) e = inr (holds-of r q, sym (passed-of r rs q) ∙ e)
+refused-row r rs n p (inr l) e =
+    let h : outcome (r ∷ rs) ≡ refused (r .number (first r)) (first r) = refused-of r rs l in
+    let a : r .number (first r) ≡ n = ap numberOf (sym h ∙ e) in
+    let b : first r ≡ p = ap placeOf (sym h ∙ e) in
+    inl (rw (← a, ← b) (broken-of r l))
+
+pub refused-broken : (rs : List Row) (n p : ℕ) → outcome rs ≡ refused n p → Broken rs n p
+unfolding outcome
+refused-broken [] n p e = not-both refl e
+refused-broken (r ∷ rs) n p e =
+    ⊎-elim (λ b. Broken.here b) (λ h. Broken.later (h .0) (refused-broken rs n p (h .1))) (refused-row r rs n p (ways r) e)
+
+pub broken-refused : {rs : List Row} {n p : ℕ} → Broken rs n p → outcome rs ≡ refused n p
+broken-refused (Broken.here {r = r} {rs = rs} {p = p} b) =
+    row-refused r rs p (sym (found-at (r .ok) (r .count) p (b .place) (b .before) (b .broken))) (b .place) ∙ ap (λ (k : ℕ). refused k p) (sym (b .number))
+broken-refused (Broken.later {r = r} {rs = rs} h b) = passes r rs h ∙ broken-refused b
+
+-- ---- a table after a table: the first one's refusal, or the second one's outcome
+accepted-append : {xs : List Row} (ys : List Row) → AllHold xs → outcome (xs ++ ys) ≡ outcome ys
+accepted-append ys none = refl
+accepted-append ys (more {r = r} {rs = rs} h t) = passes r (rs ++ ys) h ∙ accepted-append ys t
+
+pub accepted-then : (xs ys : List Row) → outcome xs ≡ Accepted → outcome (xs ++ ys) ≡ outcome ys
+accepted-then xs ys e = accepted-append ys (accepted-holds xs e)
+
+broken-then : {xs : List Row} (ys : List Row) {n p : ℕ} → Broken xs n p → Broken (xs ++ ys) n p
+broken-then ys (Broken.here b) = Broken.here b
+broken-then ys (Broken.later h b) = Broken.later h (broken-then ys b)
+
+pub refused-then : (xs ys : List Row) (n p : ℕ) → outcome xs ≡ refused n p → outcome (xs ++ ys) ≡ refused n p
+refused-then xs ys n p e = broken-refused (broken-then ys (refused-broken xs n p e))
+
+-- ---- the rules of a place
+rule-by : (r : Rule) (rs : List Rule) (t : Bool) → r .holds ≡ t → (allRules rs ≡ false → BrokenRule rs (firstBroken rs)) → allRules (r ∷ rs) ≡ false
+    → BrokenRule (r ∷ rs) (firstBroken (r ∷ rs))
+unfolding allRules firstBroken
+rule-by r rs true e rest h = subst (λ (n : ℕ). BrokenRule (r ∷ rs) n) (rw e refl) (BrokenRule.later e (rest (rw e at h)))
+rule-by r rs false e rest h = subst (λ (n : ℕ). BrokenRule (r ∷ rs) n) (rw e refl) (BrokenRule.here e)
+
+-- The number of a group's refusal is that of the first broken rule.
+pub first-broken : (rs : List Rule) → allRules rs ≡ false → BrokenRule rs (firstBroken rs)
+unfolding allRules
+first-broken [] h = absurd (false≢true (sym h))
+first-broken (r ∷ rs) h = rule-by r rs (r .holds) refl (first-broken rs) h

@@ -1,0 +1,89 @@
+-- Document 01, "Calls and refusals": a table of causes. The first row with a broken place refuses, at its lowest broken
+-- place.
+-- Assumes nothing.
+use Prim.Native.Nat.{ℕ, _<_}
+use mathlib.Core.Path.{_≡_}
+use mathlib.Core.Bool.{Bool, true, false, _&&_}
+use mathlib.Core.List.{List, [], _∷_}
+use lib.Dec.{ltb}
+use Rattle.folder.specs.Pick.{pick}
+use Rattle.folder.specs.Scan.{firstBad}
+use Rattle.folder.specs.declared.Outcome.{Outcome}
+use Rattle.folder.specs.declared.Outcome.the-variants.{Accepted, Refused}
+
+-- A refusal with this number and place.
+abbrev pub refused : ℕ → ℕ → Outcome
+refused n p = Refused (record { number = n; place = p })
+
+-- Document 01's number of an outcome, and what is returned with it. Acceptance has none: 0.
+abbrev pub numberOf : Outcome → ℕ
+numberOf Accepted = 0
+numberOf (Refused r) = r .number
+
+abbrev pub placeOf : Outcome → ℕ
+placeOf Accepted = 0
+placeOf (Refused r) = r .place
+
+-- A row: places 0 to count − 1, the test of each, and the number that a broken one is refused with.
+pub record Row : Type 0 where
+  pub number : ℕ → ℕ
+  pub count : ℕ
+  pub ok : ℕ → Bool
+
+abbrev pub row : ℕ → ℕ → (ℕ → Bool) → Row
+row number count ok = record { number = λ p. number; count = count; ok = ok }
+
+-- Rows whose rules are finished for one place before the next: the rules of a place, each with its number, in order.
+pub record Rule : Type 0 where
+  pub number : ℕ
+  pub holds : Bool
+
+abbrev pub rule : ℕ → Bool → Rule
+rule n b = record { number = n; holds = b }
+
+unfoldable pub allRules : List Rule → Bool
+allRules [] = true
+allRules (r ∷ rs) = r .holds && allRules rs
+
+-- The number of the first broken one; 0 if none is.
+unfoldable pub firstBroken : List Rule → ℕ
+firstBroken [] = 0
+firstBroken (r ∷ rs) = pick (r .holds) (firstBroken rs) (r .number)
+
+abbrev pub group : ℕ → (ℕ → List Rule) → Row
+group count rules = record { number = λ p. firstBroken (rules p); count = count; ok = λ p. allRules (rules p) }
+
+abbrev pub rowAt : Row → ℕ → Outcome → Outcome
+rowAt r p rest = pick (ltb p (r .count)) (refused (r .number p) p) rest
+
+-- What a table answers.
+unfoldable pub outcome : List Row → Outcome
+outcome [] = Accepted
+outcome (r ∷ rs) = let rest = outcome rs in rowAt r (firstBad (r .ok) (r .count)) rest
+
+-- ---- what an outcome says
+
+-- A row holds at each of its places; and so do all rows.
+pub record Holds (r : Row) : Type 0 where
+  pub at : (p : ℕ) → p < r .count → r .ok p ≡ true
+
+pub data AllHold : List Row → Type 0 where
+  none : AllHold []
+  more : {r : Row} {rs : List Row} → Holds r → AllHold rs → AllHold (r ∷ rs)
+
+-- A row is broken at p, refused with n, and holds at each place before p.
+pub record BrokenAt (r : Row) (n p : ℕ) : Type 0 where
+  pub place : p < r .count
+  pub number : n ≡ r .number p
+  pub broken : r .ok p ≡ false
+  pub before : (k : ℕ) → k < p → r .ok k ≡ true
+
+-- A row is broken so, and each row before it holds.
+pub data Broken : List Row → ℕ → ℕ → Type 0 where
+  here : {r : Row} {rs : List Row} {n p : ℕ} → BrokenAt r n p → Broken (r ∷ rs) n p
+  later : {r : Row} {rs : List Row} {n p : ℕ} → Holds r → Broken rs n p → Broken (r ∷ rs) n p
+
+-- Of a place's rules, the first broken one has the number n.
+pub data BrokenRule : List Rule → ℕ → Type 0 where
+  here : {r : Rule} {rs : List Rule} → r .holds ≡ false → BrokenRule (r ∷ rs) (r .number)
+  later : {r : Rule} {rs : List Rule} {n : ℕ} → r .holds ≡ true → BrokenRule rs n → BrokenRule (r ∷ rs) n
