@@ -10,14 +10,15 @@ use borrow.Author.Tests.{lt-ltb, le-ltb}
 use native.Mathlib.Nat.{eq-or-lt-of-le}
 use native.Mathlib.Omega.{arith}
 use Rattle.folder.specs.Scan.{firstBad}
-use Rattle.folder.specs.Table.{refused, numberOf, placeOf, Row, Rule, allRules, firstBroken, outcome, Holds, AllHold, none, more, BrokenAt, Broken, BrokenRule}
+use Rattle.folder.specs.Table.{Row, Rule, allRules, firstBroken, outcome, Holds, AllHold, none, more, BrokenAt, Broken, BrokenRule}
+use Rattle.folder.specs.declared.Refusal.{Refusal}
 use Rattle.folder.specs.declared.Outcome.{Outcome}
 use Rattle.folder.specs.declared.Outcome.the-variants.{Accepted, Refused}
 use Rattle.folder.proofs.ScanLaws.{found, all-found, found-at}
 
 -- ---- a chain of rows in the code, one law for each way
 module _ (r : Row) (rs : List Row) (p : ℕ) (e : p ≡ firstBad (r .ok) (r .count)) where
-  pub row-refused : p < r .count → outcome (r ∷ rs) ≡ refused (r .number p) p
+  pub row-refused : p < r .count → outcome (r ∷ rs) ≡ Refused (r .gives p)
   unfolding outcome
   row-refused l = rw (← e) (simp (lt-ltb p (r .count) l))
 
@@ -42,7 +43,7 @@ rest-of h e = e ∙ sym (h .same)
 
 -- The code has n places, and its scan answered p.
 module _ {whole : List Row} {r : Row} {rs : List Row} (h : Rest whole (r ∷ rs)) {n p : ℕ} (q : n ≡ r .count) (e : p ≡ firstBad (r .ok) n) where
-  pub refuses : p < n → refused (r .number p) p ≡ outcome whole
+  pub refuses : p < n → Refused (r .gives p) ≡ outcome whole
   refuses l = sym (h .same ∙ row-refused r rs p (e ∙ ap (firstBad (r .ok)) q) (omega arith))
 
   pub row-holds : n ≤ p → Rest whole rs
@@ -64,15 +65,15 @@ holds-of r q = record { at = λ k l. found (r .ok) (r .count) .before k (rw q l)
 passed-of : (r : Row) (rs : List Row) → first r ≡ r .count → outcome (r ∷ rs) ≡ outcome rs
 passed-of r rs q = row-passed r rs (first r) refl (omega arith)
 
-broken-of : (r : Row) → first r < r .count → BrokenAt r (r .number (first r)) (first r)
-broken-of r l =
-    let f = found (r .ok) (r .count) in
-    record { place = l; number = refl; broken = f .broken l; before = f .before }
+broken-of : (r : Row) (f : Refusal) → first r < r .count → r .gives (first r) ≡ f → BrokenAt r f
+broken-of r f l e =
+    let h = found (r .ok) (r .count) in
+    record { at = first r; place = l; gives = e; broken = h .broken l; before = h .before }
 
-refused-of : (r : Row) (rs : List Row) → first r < r .count → outcome (r ∷ rs) ≡ refused (r .number (first r)) (first r)
+refused-of : (r : Row) (rs : List Row) → first r < r .count → outcome (r ∷ rs) ≡ Refused (r .gives (first r))
 refused-of r rs l = row-refused r rs (first r) refl l
 
-pub not-both : {A : Type 0} {o : Outcome} {n p : ℕ} → o ≡ Accepted → o ≡ refused n p → A
+pub not-both : {A : Type 0} {o : Outcome} {f : Refusal} → o ≡ Accepted → o ≡ Refused f → A
 not-both e f = let z : _≡_ {A = ℕ} 0 1 = cc in absurd (omega arith)
 
 accepted-row : (r : Row) (rs : List Row) → Ways r → outcome (r ∷ rs) ≡ Accepted → Holds r × (outcome rs ≡ Accepted)
@@ -91,23 +92,21 @@ unfolding outcome
 holds-accepted none = refl
 holds-accepted (more {r = r} {rs = rs} h t) = passes r rs h ∙ holds-accepted t
 
-refused-row : (r : Row) (rs : List Row) (n p : ℕ) → Ways r → outcome (r ∷ rs) ≡ refused n p → BrokenAt r n p ⊎ (Holds r × (outcome rs ≡ refused n p))
-refused-row r rs n p (inl q) e = inr (holds-of r q, sym (passed-of r rs q) ∙ e)
-refused-row r rs n p (inr l) e =
-    let h : outcome (r ∷ rs) ≡ refused (r .number (first r)) (first r) = refused-of r rs l in
-    let a : r .number (first r) ≡ n = ap numberOf (sym h ∙ e) in
-    let b : first r ≡ p = ap placeOf (sym h ∙ e) in
-    inl (rw (← a, ← b) (broken-of r l))
+refused-row : (r : Row) (rs : List Row) (f : Refusal) → Ways r → outcome (r ∷ rs) ≡ Refused f → BrokenAt r f ⊎ (Holds r × (outcome rs ≡ Refused f))
+refused-row r rs f (inl q) e = inr (holds-of r q, sym (passed-of r rs q) ∙ e)
+refused-row r rs f (inr l) e =
+    let h : outcome (r ∷ rs) ≡ Refused (r .gives (first r)) = refused-of r rs l in
+    inl (broken-of r f l (cc))
 
-pub refused-broken : (rs : List Row) (n p : ℕ) → outcome rs ≡ refused n p → Broken rs n p
+pub refused-broken : (rs : List Row) (f : Refusal) → outcome rs ≡ Refused f → Broken rs f
 unfolding outcome
-refused-broken [] n p e = not-both refl e
-refused-broken (r ∷ rs) n p e =
-    ⊎-elim (λ b. Broken.here b) (λ h. Broken.later (h .0) (refused-broken rs n p (h .1))) (refused-row r rs n p (ways r) e)
+refused-broken [] f e = not-both refl e
+refused-broken (r ∷ rs) f e =
+    ⊎-elim (λ b. Broken.here b) (λ h. Broken.later (h .0) (refused-broken rs f (h .1))) (refused-row r rs f (ways r) e)
 
-pub broken-refused : {rs : List Row} {n p : ℕ} → Broken rs n p → outcome rs ≡ refused n p
-broken-refused (Broken.here {r = r} {rs = rs} {p = p} b) =
-    row-refused r rs p (sym (found-at (r .ok) (r .count) p (b .place) (b .before) (b .broken))) (b .place) ∙ ap (λ (k : ℕ). refused k p) (sym (b .number))
+pub broken-refused : {rs : List Row} {f : Refusal} → Broken rs f → outcome rs ≡ Refused f
+broken-refused (Broken.here {r = r} {rs = rs} b) =
+    row-refused r rs (b .at) (sym (found-at (r .ok) (r .count) (b .at) (b .place) (b .before) (b .broken))) (b .place) ∙ ap Refused (b .gives)
 broken-refused (Broken.later {r = r} {rs = rs} h b) = passes r rs h ∙ broken-refused b
 
 -- ---- a table after a table: the first one's refusal, or the second one's outcome
@@ -118,12 +117,12 @@ accepted-append ys (more {r = r} {rs = rs} h t) = passes r (rs ++ ys) h ∙ acce
 pub accepted-then : (xs ys : List Row) → outcome xs ≡ Accepted → outcome (xs ++ ys) ≡ outcome ys
 accepted-then xs ys e = accepted-append ys (accepted-holds xs e)
 
-broken-then : {xs : List Row} (ys : List Row) {n p : ℕ} → Broken xs n p → Broken (xs ++ ys) n p
+broken-then : {xs : List Row} (ys : List Row) {f : Refusal} → Broken xs f → Broken (xs ++ ys) f
 broken-then ys (Broken.here b) = Broken.here b
 broken-then ys (Broken.later h b) = Broken.later h (broken-then ys b)
 
-pub refused-then : (xs ys : List Row) (n p : ℕ) → outcome xs ≡ refused n p → outcome (xs ++ ys) ≡ refused n p
-refused-then xs ys n p e = broken-refused (broken-then ys (refused-broken xs n p e))
+pub refused-then : (xs ys : List Row) (f : Refusal) → outcome xs ≡ Refused f → outcome (xs ++ ys) ≡ Refused f
+refused-then xs ys f e = broken-refused (broken-then ys (refused-broken xs f e))
 
 -- ---- the rules of a place
 rule-by : (r : Rule) (rs : List Rule) (t : Bool) → r .holds ≡ t → (allRules rs ≡ false → BrokenRule rs (firstBroken rs)) → allRules (r ∷ rs) ≡ false

@@ -8,12 +8,16 @@ use mathlib.Core.List.{List, [], _∷_}
 use lib.Dec.{ltb}
 use Rattle.folder.specs.Pick.{pick}
 use Rattle.folder.specs.Scan.{firstBad}
+use Rattle.folder.specs.declared.Refusal.{Refusal}
 use Rattle.folder.specs.declared.Outcome.{Outcome}
 use Rattle.folder.specs.declared.Outcome.the-variants.{Accepted, Refused}
 
--- A refusal with this number and place.
+-- The refusal with this number and place.
+abbrev pub refusal : ℕ → ℕ → Refusal
+refusal n p = record { number = n; place = p }
+
 abbrev pub refused : ℕ → ℕ → Outcome
-refused n p = Refused (record { number = n; place = p })
+refused n p = Refused (refusal n p)
 
 -- Document 01's number of an outcome, and what is returned with it. Acceptance has none: 0.
 abbrev pub numberOf : Outcome → ℕ
@@ -24,14 +28,18 @@ abbrev pub placeOf : Outcome → ℕ
 placeOf Accepted = 0
 placeOf (Refused r) = r .place
 
--- A row: places 0 to count − 1, the test of each, and the number that a broken one is refused with.
+-- A row: places 0 to count − 1, the test of each, and the refusal that a broken one gives.
 pub record Row : Type 0 where
-  pub number : ℕ → ℕ
   pub count : ℕ
   pub ok : ℕ → Bool
+  pub gives : ℕ → Refusal
 
+-- A row of one number, whose places are returned with it; and one with a single test, and a place that is given.
 abbrev pub row : ℕ → ℕ → (ℕ → Bool) → Row
-row number count ok = record { number = λ p. number; count = count; ok = ok }
+row number count ok = record { count = count; ok = ok; gives = refusal number }
+
+abbrev pub single : ℕ → ℕ → Bool → Row
+single number place ok = record { count = 1; ok = λ _. ok; gives = λ _. refusal number place }
 
 -- Rows whose rules are finished for one place before the next: the rules of a place, each with its number, in order.
 pub record Rule : Type 0 where
@@ -51,10 +59,10 @@ firstBroken [] = 0
 firstBroken (r ∷ rs) = pick (r .holds) (firstBroken rs) (r .number)
 
 abbrev pub group : ℕ → (ℕ → List Rule) → Row
-group count rules = record { number = λ p. firstBroken (rules p); count = count; ok = λ p. allRules (rules p) }
+group count rules = record { count = count; ok = λ p. allRules (rules p); gives = λ p. refusal (firstBroken (rules p)) p }
 
 abbrev pub rowAt : Row → ℕ → Outcome → Outcome
-rowAt r p rest = pick (ltb p (r .count)) (refused (r .number p) p) rest
+rowAt r p rest = pick (ltb p (r .count)) (Refused (r .gives p)) rest
 
 -- What a table answers.
 unfoldable pub outcome : List Row → Outcome
@@ -71,17 +79,18 @@ pub data AllHold : List Row → Type 0 where
   none : AllHold []
   more : {r : Row} {rs : List Row} → Holds r → AllHold rs → AllHold (r ∷ rs)
 
--- A row is broken at p, refused with n, and holds at each place before p.
-pub record BrokenAt (r : Row) (n p : ℕ) : Type 0 where
-  pub place : p < r .count
-  pub number : n ≡ r .number p
-  pub broken : r .ok p ≡ false
-  pub before : (k : ℕ) → k < p → r .ok k ≡ true
+-- A row is broken and gives f: at its lowest broken place.
+pub record BrokenAt (r : Row) (f : Refusal) : Type 0 where
+  pub at : ℕ
+  pub place : at < r .count
+  pub gives : r .gives at ≡ f
+  pub broken : r .ok at ≡ false
+  pub before : (k : ℕ) → k < at → r .ok k ≡ true
 
 -- A row is broken so, and each row before it holds.
-pub data Broken : List Row → ℕ → ℕ → Type 0 where
-  here : {r : Row} {rs : List Row} {n p : ℕ} → BrokenAt r n p → Broken (r ∷ rs) n p
-  later : {r : Row} {rs : List Row} {n p : ℕ} → Holds r → Broken rs n p → Broken (r ∷ rs) n p
+pub data Broken : List Row → Refusal → Type 0 where
+  here : {r : Row} {rs : List Row} {f : Refusal} → BrokenAt r f → Broken (r ∷ rs) f
+  later : {r : Row} {rs : List Row} {f : Refusal} → Holds r → Broken rs f → Broken (r ∷ rs) f
 
 -- Of a place's rules, the first broken one has the number n.
 pub data BrokenRule : List Rule → ℕ → Type 0 where

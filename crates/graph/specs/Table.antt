@@ -1,0 +1,71 @@
+-- The graph check: rows 12 to 25 after the model's, 18 to 25 finished for one node before the next.
+-- Assumes nothing.
+use Prim.Native.Nat.{ℕ, _+_}
+use mathlib.Core.List.{List, [], _∷_, _++_}
+use lib.Dec.{eqb}
+use Rattle.mdp.specs.Sums.{sum}
+use Rattle.folder.specs.Pick.{pick}
+use Rattle.folder.specs.Contents.{entryOk}
+use Rattle.folder.specs.Table.{Row, Rule, row, rule, single, group, outcome}
+use Rattle.folder.specs.declared.Outcome.{Outcome}
+use Rattle.folder.specs.declared.Outcome.the-variants as O
+use Rattle.model.specs.Model.{Model, modelOf}
+use Rattle.model.specs.Table.{modelRows}
+use Rattle.graph.specs.Simulation.{Simulation, bodies, simulationOf}
+use Rattle.graph.specs.Rules.{bytesFit, nodesFit, nodeFits, edgesFit, rootFits, A1, A2, B1, B2, C3, C1, C2, valueFits}
+use Rattle.graph.specs.declared.Summary.{Summary}
+use Rattle.graph.specs.declared.GraphAnswer.{GraphAnswer}
+use Rattle.graph.specs.declared.GraphAnswer.the-variants.{Accepted, Refused}
+
+-- The rows that say that the bytes are a folder of nodes and edges.
+abbrev pub folderRows : Model → List ℕ → List Row
+folderRows M g = single 12 0 (bytesFit g) ∷ row 13 bodies (entryOk g bodies) ∷ single 14 0 (nodesFit M g) ∷ []
+
+-- The rules of node n.
+abbrev pub nodeRules : Model → Simulation → ℕ → List Rule
+nodeRules M G n =
+    rule 18 (A1 M G n)
+    ∷ rule 19 (A2 M G n)
+    ∷ rule 20 (B1 M G n)
+    ∷ rule 21 (B2 M G n)
+    ∷ rule 22 (C3 M G n)
+    ∷ rule 23 (C1 M G n)
+    ∷ rule 24 (C2 M G n)
+    ∷ rule 25 (valueFits M G (G .value) n)
+    ∷ []
+
+-- And the rows on what they hold.
+abbrev pub contentRows : Model → Simulation → List Row
+contentRows M G =
+    row 15 (G .nodes) (nodeFits M G)
+    ∷ row 16 (G .nodes + 1) (edgesFit M G)
+    ∷ single 17 0 (rootFits M G)
+    ∷ group (G .nodes) (nodeRules M G)
+    ∷ []
+
+abbrev pub graphRows : Model → List ℕ → List Row
+graphRows M g = folderRows M g ++ contentRows M (simulationOf M g)
+
+unfoldable pub graphOutcome : List ℕ → List ℕ → Outcome
+graphOutcome m g = outcome (modelRows m ++ graphRows (modelOf m) g)
+
+-- The count of nodes of a kind.
+abbrev pub kindCount : Simulation → ℕ → ℕ
+kindCount G k = sum (G .nodes) (λ n _. pick (eqb (G .kind n) k) 1 0)
+
+abbrev pub summary : Simulation → Summary
+summary G = record {
+  root = G .value 0;
+  waiting = kindCount G 0;
+  expanded = kindCount G 1;
+  covered = kindCount G 2;
+  target = kindCount G 3;
+}
+
+abbrev pub answerOf : Outcome → Summary → GraphAnswer
+answerOf O.Accepted s = Accepted s
+answerOf (O.Refused f) s = Refused f
+
+-- What the graph check answers.
+unfoldable pub graphAnswer : List ℕ → List ℕ → GraphAnswer
+graphAnswer m g = answerOf (graphOutcome m g) (summary (simulationOf (modelOf m) g))

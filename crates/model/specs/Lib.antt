@@ -1,0 +1,9 @@
+pub mod Limits
+pub mod Layout
+pub mod Model
+pub mod Rules
+pub mod Table
+pub mod Chances
+pub mod Step
+pub mod View
+pub mod Pedal

@@ -1,0 +1,59 @@
+-- Document 01, "Models": a model, and the one that a folder's bytes hold.
+-- Assumes nothing.
+use Prim.Native.Nat.{ℕ, _+_}
+use mathlib.Core.List.{List}
+use lib.Dec.{ltb}
+use lib.IntN.{ℤ, pos}
+use Rattle.mdp.specs.Sums.{sum}
+use Rattle.folder.specs.Pick.{pick}
+use Rattle.folder.specs.Contents.{body, countOf, field, signedField}
+use Rattle.expressions.specs.Entries.{Entries, entriesOf}
+use Rattle.expressions.specs.Ranges.{span}
+use Rattle.expressions.specs.declared.Range.{Range}
+use Rattle.model.specs.Layout.{variableCount, branchSize}
+
+pub record Model : Type 0 where
+  -- Terms: D, and the entry of the target truth.
+  pub total : ℕ
+  pub target : ℕ
+  -- Variables.
+  pub variables : ℕ
+  pub low : ℕ → ℤ
+  pub high : ℕ → ℤ
+  pub initial : ℕ → ℤ
+  -- Expressions.
+  pub entries : Entries
+  -- Commands: the entry of the guard, and how many branches.
+  pub commands : ℕ
+  pub guard : ℕ → ℕ
+  pub branches : ℕ → ℕ
+  -- Branch records, in command order: the weight, and the entry assigned to each variable.
+  pub records : ℕ
+  pub weight : ℕ → ℕ
+  pub assigned : ℕ → ℕ → ℕ
+
+abbrev pub modelOf : List ℕ → Model
+modelOf m = record {
+  total = field 4 (body m 0) 0 0;
+  target = field 4 (body m 0) 0 1;
+  variables = variableCount m;
+  low = λ v. signedField 6 (body m 1) v 0;
+  high = λ v. signedField 6 (body m 1) v 1;
+  initial = λ v. signedField 6 (body m 1) v 2;
+  entries = entriesOf (body m 2);
+  commands = countOf 4 (body m 3);
+  guard = λ c. field 4 (body m 3) c 0;
+  branches = λ c. field 4 (body m 3) c 1;
+  records = countOf (branchSize (variableCount m)) (body m 4);
+  weight = λ r. field (branchSize (variableCount m)) (body m 4) r 0;
+  assigned = λ r v. field (branchSize (variableCount m)) (body m 4) r (1 + v);
+}
+
+module _ (M : Model) where
+  -- The range of variable v; past the last, 0 to 0.
+  unfoldable pub bound : ℕ → Range
+  bound v = pick (ltb v (M .variables)) (span (M .low v) (M .high v)) (span (pos 0) (pos 0))
+
+  -- The first branch record of command c: its branches stand there, after those of the commands before.
+  abbrev pub firstRecord : ℕ → ℕ
+  firstRecord c = sum c (λ i _. M .branches i)
