@@ -5,3 +5,4 @@ pub mod Meaning
 pub mod Reading
 pub mod Ranges
 pub mod Rules
+pub mod Right

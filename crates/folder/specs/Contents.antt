@@ -1,12 +1,13 @@
 -- Document 01, "Folders": the table of contents, the bodies, and their records.
 -- Assumes nothing.
-use Prim.Native.Nat.{ℕ, _+_, _-_, _*_, _/_}
+use Prim.Native.Nat.{ℕ, _+_, _-_, _*_, _/_, _≤_}
+use mathlib.Core.Path.{_≡_}
 use mathlib.Core.List.{List}
-use mathlib.Core.Bool.{Bool, _&&_, _||_}
+use mathlib.Core.Bool.{Bool, _&&_}
 use lib.ListN.{length, take, drop}
-use lib.Dec.{ltb, leb, eqb}
+use lib.Dec.{leb, eqb}
 use lib.IntN.{ℤ}
-use Rattle.folder.specs.Pick.{pick}
+use Rattle.folder.specs.Pick.{pick, implies}
 use Rattle.folder.specs.Fields.{u16, u32, signed16}
 
 -- Entry e of the table: where its body starts, and the body's length.
@@ -24,7 +25,13 @@ dueStart s k e = pick (eqb e 0) (k * 8) (startOf s (e - 1) + lengthOf s (e - 1))
 unfoldable pub entryOk : List ℕ → ℕ → ℕ → Bool
 entryOk s k e =
     (eqb (startOf s e) (dueStart s k e) && leb (startOf s e + lengthOf s e) (length s))
-    && (ltb (e + 1) k || eqb (startOf s e + lengthOf s e) (length s))
+    && implies (eqb (e + 1) k) (eqb (startOf s e + lengthOf s e) (length s))
+
+-- The same as a rule.
+pub record EntryRight (s : List ℕ) (k e : ℕ) : Type 0 where
+  pub start : startOf s e ≡ dueStart s k e
+  pub ends : startOf s e + lengthOf s e ≤ length s
+  pub final : e + 1 ≡ k → startOf s e + lengthOf s e ≡ length s
 
 -- Body e.
 unfoldable pub body : List ℕ → ℕ → List ℕ

@@ -5,3 +5,4 @@ pub mod Rules
 pub mod Table
 pub mod Figures
 pub mod Pedal
+pub mod Valid

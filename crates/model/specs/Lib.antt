@@ -7,3 +7,4 @@ pub mod Chances
 pub mod Step
 pub mod View
 pub mod Pedal
+pub mod Valid
