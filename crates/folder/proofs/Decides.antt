@@ -3,6 +3,7 @@
 use Prim.Native.Nat.{ℕ, _≤_, _<_}
 use mathlib.Core.Path.{_≡_, refl, sym, ap, _∙_, subst}
 use mathlib.Core.Bool.{Bool, true, false, not, _&&_, _||_, false≢true}
+use mathlib.Core.Logic.{_⊎_, inl, inr, ⊎-elim}
 use mathlib.Core.List.{List, [], _∷_}
 use borrow.Author.Tests.{ltb-true, leb-true, eqb-true, lt-ltb, le-leb, eq-eqb}
 use lib.Dec.{T, ltb, leb, eqb}
@@ -76,6 +77,39 @@ everywhere n {ok = ok} d = record {
   yes = λ e k l. d k l .yes (found ok n .before k (rw (eqb-true (firstBad ok n) n e) l));
   no = λ f. eq-eqb (firstBad ok n) n (all-found ok n (λ k l. d k l .no (f k l)));
 }
+
+or-by : (a b : Bool) → (a || b) ≡ true → (a ≡ true) ⊎ (b ≡ true)
+or-by true b e = inl refl
+or-by false b e = inr e
+
+by-left : (a b : Bool) → a ≡ true → (a || b) ≡ true
+by-left true b e = refl
+by-left false b e = absurd (false≢true e)
+
+by-right : (a b : Bool) → b ≡ true → (a || b) ≡ true
+by-right true b e = refl
+by-right false b e = e
+
+infixr 15 _∨else_
+pub _∨else_ : {P Q : Type 0} {a b : Bool} → Decides P a → Decides Q b → Decides (P ⊎ Q) (a || b)
+_∨else_ {a = a} {b = b} p q = record {
+  yes = λ e. ⊎-elim (λ h. inl (p .yes h)) (λ h. inr (q .yes h)) (or-by a b e);
+  no = λ h. ⊎-elim (λ x. by-left a b (p .no x)) (λ y. by-right a b (q .no y)) h;
+}
+
+-- A test that never passes, and one whose failure is asked.
+pub never : Decides ⊥ false
+never = record { yes = λ e. false≢true e; no = λ h. absurd h }
+
+pub unless : {P : Type 0} {b : Bool} → Decides P b → Decides (P → ⊥) (not b)
+unless {P} {b} d = record {
+  yes = λ e h. false≢true (sym (fails-by b .1 e) ∙ d .no h);
+  no = λ f. go b refl f;
+}
+  where
+    go : (t : Bool) → b ≡ t → (P → ⊥) → not b ≡ true
+    go true e f = absurd (f (d .yes e))
+    go false e f = rw e refl
 
 -- A rule put in other words.
 pub reworded : {P Q : Type 0} {b : Bool} → (P → Q) → (Q → P) → Decides P b → Decides Q b

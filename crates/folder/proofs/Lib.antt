@@ -2,3 +2,4 @@ pub mod Decides
 pub mod ScanLaws
 pub mod TabLaws
 pub mod TableLaws
+pub mod ContentsLaws
