@@ -3,17 +3,18 @@
 -- Assumes nothing.
 use Prim.Native.Nat.{ℕ, _≤_, _<_}
 use mathlib.Core.Path.{_≡_, refl, sym, ap, _∙_, subst}
-use mathlib.Core.Logic.{_⊎_, inl, inr, ⊎-elim}
+use mathlib.Core.Logic.{_⊎_, inl, inr, ⊎-elim, _↔_}
 use mathlib.Core.Bool.{Bool, true, false, false≢true}
 use mathlib.Core.List.{List, [], _∷_, _++_}
 use borrow.Author.Tests.{lt-ltb, le-ltb}
 use native.Mathlib.Nat.{eq-or-lt-of-le}
 use native.Mathlib.Omega.{arith}
 use Rattle.folder.specs.Scan.{firstBad}
-use Rattle.folder.specs.Table.{Row, Rule, allRules, firstBroken, outcome, Holds, AllHold, none, more, BrokenAt, Broken, BrokenRule}
+use Rattle.folder.specs.Table.{Row, Rule, row, single, allRules, firstBroken, outcome, Holds, AllHold, none, more, BrokenAt, Broken, BrokenRule}
 use Rattle.folder.specs.declared.Refusal.{Refusal}
 use Rattle.folder.specs.declared.Outcome.{Outcome}
 use Rattle.folder.specs.declared.Outcome.the-variants.{Accepted, Refused}
+use Rattle.folder.proofs.Decides.{Decides}
 use Rattle.folder.proofs.ScanLaws.{found, all-found, found-at}
 
 -- ---- a chain of rows in the code, one law for each way
@@ -108,6 +109,29 @@ pub broken-refused : {rs : List Row} {f : Refusal} → Broken rs f → outcome r
 broken-refused (Broken.here {r = r} {rs = rs} b) =
     row-refused r rs (b .at) (sym (found-at (r .ok) (r .count) (b .at) (b .place) (b .before) (b .broken))) (b .place) ∙ ap Refused (b .gives)
 broken-refused (Broken.later {r = r} {rs = rs} h b) = passes r rs h ∙ broken-refused b
+
+-- ---- what each row of a table asks, and all of them
+pub row-asks : {P : ℕ → Type 0} (number count : ℕ) (ok : ℕ → Bool) → ((p : ℕ) → Decides (P p) (ok p)) → Holds (row number count ok) ↔ ((p : ℕ) → p < count → P p)
+row-asks number count ok d = ((λ h p l. d p .yes (h .at p l)), λ f. record { at = λ p l. d p .no (f p l) })
+
+pub single-asks : {P : Type 0} (number place : ℕ) {ok : Bool} → Decides P ok → Holds (single number place ok) ↔ P
+single-asks number place d = ((λ h. d .yes (h .at 0 (omega arith))), λ p. record { at = λ k l. d .no p })
+
+infixr 20 _row-and_
+pub _row-and_ : {r : Row} {rs : List Row} {P Q : Type 0} → Holds r ↔ P → AllHold rs ↔ Q → AllHold (r ∷ rs) ↔ (P × Q)
+p row-and q = (λ a. (p .0 (head a), q .0 (tail a)), λ h. more (p .1 (h .0)) (q .1 (h .1)))
+  where
+    head : {r : Row} {rs : List Row} → AllHold (r ∷ rs) → Holds r
+    head (more h t) = h
+
+    tail : {r : Row} {rs : List Row} → AllHold (r ∷ rs) → AllHold rs
+    tail (more h t) = t
+
+pub no-rows : AllHold [] ↔ Unit {0}
+no-rows = ((λ a. tt), λ u. none)
+
+pub accepted-asks : {rs : List Row} {P Q : Type 0} → AllHold rs ↔ P → (P → Q) → (Q → P) → (outcome rs ≡ Accepted) ↔ Q
+accepted-asks {rs} e f g = ((λ h. f (e .0 (accepted-holds rs h))), λ q. holds-accepted (e .1 (g q)))
 
 -- ---- a table after a table: the first one's refusal, or the second one's outcome
 accepted-append : {xs : List Row} (ys : List Row) → AllHold xs → outcome (xs ++ ys) ≡ outcome ys

@@ -1,1 +1,1 @@
-pub mod PedalCase
+pub mod Decided

@@ -8,7 +8,7 @@ use lib.Dec.{ltb, leb, eqb}
 use lib.IntN.{ℤ}
 use lib.Signed.{leZ}
 use Rattle.mdp.specs.Sums.{sum}
-use Rattle.folder.specs.Pick.{pick, implies}
+use Rattle.folder.specs.Pick.{implies}
 use Rattle.folder.specs.Scan.{all}
 use Rattle.folder.specs.Contents.{body}
 use Rattle.expressions.specs.Entries.{isNumber, isTruth}
@@ -37,7 +37,7 @@ module _ (M : Model) where
 
   -- Row 7: D is not 0 (place 0); the target is a truth (1).
   unfoldable pub termsFit : ℕ → Bool
-  termsFit p = pick (eqb p 0) (not (eqb (M .total) 0)) (isTruth (M .entries) (M .target))
+  termsFit p = implies (eqb p 0) (not (eqb (M .total) 0)) && implies (eqb p 1) (isTruth (M .entries) (M .target))
 
   -- Row 8: command c.
   unfoldable pub commandFits : ℕ → Bool

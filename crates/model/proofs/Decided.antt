@@ -1,0 +1,122 @@
+-- The model check accepts if and only if the folder and model rules hold.
+-- Assumes nothing.
+use Prim.Native.Nat.{ℕ, zero, suc, _+_, _%_, _<_, _≤_}
+use mathlib.Core.Path.{_≡_, refl}
+use mathlib.Core.Logic.{_↔_}
+use mathlib.Core.Bool.{Bool, true}
+use mathlib.Core.List.{List, [], _∷_, _++_}
+use native.Mathlib.Omega.{arith}
+use native.Mathlib.Nat.{not-suc-le-zero, le-of-suc-le-suc}
+use lib.ListN.{length}
+use lib.IntN.{ℤ}
+use Rattle.mdp.specs.Sums.{sum}
+use Rattle.folder.specs.Contents.{body}
+use Rattle.folder.specs.Table.{Row, Holds, AllHold, none, more, Broken, outcome}
+use Rattle.folder.specs.declared.Refusal.{Refusal}
+use Rattle.folder.specs.declared.Outcome.the-variants.{Accepted, Refused}
+use Rattle.folder.proofs.Decides.{Decides, at-most, at-mostZ, same, unless, whenever, _∧also_, everywhere, reworded}
+use Rattle.folder.proofs.ContentsLaws.{entry-decided as contents-decided}
+use Rattle.folder.proofs.TableLaws.{refused-broken, row-asks, single-asks, _row-and_, no-rows, accepted-asks}
+use Rattle.expressions.specs.Ranges.{rangeOf}
+use Rattle.expressions.specs.Right.{IsNumber, IsTruth, Inside}
+use Rattle.expressions.proofs.Decided.{number-decided, truth-decided, inside-decided, entry-decided, range-decided}
+use Rattle.model.specs.Limits.{leastBytes, mostBytes, leastBound, mostBound, mostBranches}
+use Rattle.model.specs.Layout.{bodies, recordSize, recordCount, mostOf}
+use Rattle.model.specs.Model.{Model, modelOf, bound, firstRecord}
+use Rattle.model.specs.Rules.{bytesFit, recordsFit, variableFits, termsFit, commandFits, recordsAddUp, assignedFits, branchFits, weightsTotal}
+use Rattle.model.specs.Table.{modelRows, contentRows, modelOutcome}
+use Rattle.model.specs.Valid.{RecordsRight, VariableRight, CommandRight, BranchRight, ModelRight, FolderRight, Valid}
+
+bytes-decided : (m : List ℕ) → Decides ((leastBytes ≤ length m) × (length m ≤ mostBytes)) (bytesFit m)
+bytes-decided m = at-most leastBytes (length m) ∧also at-most (length m) mostBytes
+
+records-decided : (m : List ℕ) (e : ℕ) → Decides (RecordsRight m e) (recordsFit m e)
+unfolding recordsFit
+records-decided m e =
+    reworded (λ h. record { whole = h .0 .0; some = h .0 .1; few = h .1 }) (λ r. ((r .whole, r .some), r .few))
+    ((same (length (body m e) % recordSize m e) 0 ∧also at-most 1 (recordCount m e)) ∧also at-most (recordCount m e) (mostOf e))
+
+module _ (M : Model) where
+  variable-decided : (v : ℕ) → Decides (VariableRight M v) (variableFits M v)
+  unfolding variableFits
+  variable-decided v =
+      reworded (λ h. record { ordered = h .0; least = h .1 .0 .0; most = h .1 .0 .1; initial-low = h .1 .1 .0; initial-high = h .1 .1 .1 })
+      (λ r. (r .ordered, ((r .least, r .most), (r .initial-low, r .initial-high))))
+      (at-mostZ (M .low v) (M .high v)
+      ∧also (at-mostZ leastBound (M .low v) ∧also at-mostZ (M .high v) mostBound)
+      ∧also at-mostZ (M .low v) (M .initial v)
+      ∧also at-mostZ (M .initial v) (M .high v))
+
+  command-decided : (c : ℕ) → Decides (CommandRight M c) (commandFits M c)
+  unfolding commandFits
+  command-decided c =
+      reworded (λ h. record { guard = h .0; some = h .1 .0; few = h .1 .1 }) (λ r. (r .guard, (r .some, r .few)))
+      (truth-decided (M .entries) (M .guard c) ∧also at-most 1 (M .branches c) ∧also at-most (M .branches c) mostBranches)
+
+  records-add-up : Decides (M .records ≡ firstRecord M (M .commands)) (recordsAddUp M)
+  unfolding recordsAddUp
+  records-add-up = same (M .records) (firstRecord M (M .commands))
+
+  assigned-decided : (r v : ℕ) → Decides (IsNumber (M .entries) (M .assigned r v) × Inside (rangeOf (M .entries) (bound M) (M .assigned r v)) (bound M v)) (assignedFits M r v)
+  unfolding assignedFits
+  assigned-decided r v =
+      number-decided (M .entries) (M .assigned r v) ∧also inside-decided (rangeOf (M .entries) (bound M) (M .assigned r v)) (bound M v)
+
+  branch-decided : (r : ℕ) → Decides (BranchRight M r) (branchFits M r)
+  unfolding branchFits
+  branch-decided r =
+      reworded (λ h. record { weight = h .0; number = λ v l. h .1 v l .0; range = λ v l. h .1 v l .1 }) (λ b. (b .weight, λ v l. (b .number v l, b .range v l)))
+      (unless (same (M .weight r) 0) ∧also everywhere (M .variables) (λ v l. assigned-decided r v))
+
+  weights-decided : (c : ℕ) → Decides (sum (M .branches c) (λ b _. M .weight (firstRecord M c + b)) ≡ M .total) (weightsTotal M c)
+  unfolding weightsTotal
+  weights-decided c = same (sum (M .branches c) (λ b _. M .weight (firstRecord M c + b))) (M .total)
+
+  terms-decided : (p : ℕ) → Decides ((p ≡ 0 → M .total ≡ 0 → ⊥) × (p ≡ 1 → IsTruth (M .entries) (M .target))) (termsFit M p)
+  unfolding termsFit
+  terms-decided p = whenever (same p 0) (unless (same (M .total) 0)) ∧also whenever (same p 1) (truth-decided (M .entries) (M .target))
+
+-- The model check accepts if and only if the folder and model rules hold.
+pub accepted-valid : (m : List ℕ) → (modelOutcome m ≡ Accepted) ↔ Valid m
+unfolding modelOutcome
+accepted-valid m = accepted-asks
+    (single-asks 1 0 (bytes-decided m)
+    row-and row-asks 2 bodies _ (contents-decided m bodies)
+    row-and row-asks 3 bodies _ (records-decided m)
+    row-and row-asks 4 (modelOf m .variables) _ (variable-decided (modelOf m))
+    row-and row-asks 5 (modelOf m .entries .count) _ (entry-decided (modelOf m .entries) (modelOf m .variables))
+    row-and row-asks 6 (modelOf m .entries .count) _ (range-decided (modelOf m .entries) (bound (modelOf m)))
+    row-and row-asks 7 2 _ (terms-decided (modelOf m))
+    row-and row-asks 8 (modelOf m .commands) _ (command-decided (modelOf m))
+    row-and single-asks 9 0 (records-add-up (modelOf m))
+    row-and row-asks 10 (modelOf m .records) _ (branch-decided (modelOf m))
+    row-and row-asks 11 (modelOf m .commands) _ (weights-decided (modelOf m))
+    row-and no-rows)
+    (λ h. record {
+      folder = record { long = h .0 .0; short = h .0 .1; contents = h .1 .0; records = h .1 .1 .0 };
+      model = record {
+        variables = h .1 .1 .1 .0;
+        entries = h .1 .1 .1 .1 .0;
+        ranges = h .1 .1 .1 .1 .1 .0;
+        total = h .1 .1 .1 .1 .1 .1 .0 0 (omega arith) .0 refl;
+        target = h .1 .1 .1 .1 .1 .1 .0 1 (omega arith) .1 refl;
+        commands = h .1 .1 .1 .1 .1 .1 .1 .0;
+        records = h .1 .1 .1 .1 .1 .1 .1 .1 .0;
+        branches = h .1 .1 .1 .1 .1 .1 .1 .1 .1 .0;
+        weights = h .1 .1 .1 .1 .1 .1 .1 .1 .1 .1 .0;
+      };
+    })
+    (λ v.
+    let F = v .folder in
+    let R = v .model in (
+      (F .long, F .short),
+      (
+        F .contents,
+        (F .records, (R .variables, (R .entries, (R .ranges, ((λ p l. ((λ e. R .total), λ e. R .target)), (R .commands, (R .records, (R .branches, (R .weights, tt))))))))),
+      ),
+    ))
+
+-- A refusal is of the first broken row, at its lowest broken place, and each row before it holds.
+pub refused-first : (m : List ℕ) (f : Refusal) → modelOutcome m ≡ Refused f → Broken (modelRows m) f
+unfolding modelOutcome
+refused-first m f e = refused-broken (modelRows m) f e
