@@ -97,7 +97,19 @@ _∨else_ {a = a} {b = b} p q = record {
   no = λ h. ⊎-elim (λ x. by-left a b (p .no x)) (λ y. by-right a b (q .no y)) h;
 }
 
--- A test that never passes, and one whose failure is asked.
+either-by : {P A B : Type 0} (t : Bool) {a b : Bool} → Decides P t → Decides A a → Decides B b → Decides ((P → A) × ((P → ⊥) → B)) (pick t a b)
+either-by true p x y = record { yes = λ e. ((λ h. x .yes e), λ h. absurd (h (p .yes refl))); no = λ h. x .no (h .0 (p .yes refl)) }
+either-by false p x y =
+    record { yes = λ e. ((λ h. absurd (false≢true (p .no h))), λ h. y .yes e); no = λ h. y .no (h .1 (λ q. false≢true (p .no q))) }
+
+-- One of two tests, by a third.
+pub either-way : {P A B : Type 0} {t a b : Bool} → Decides P t → Decides A a → Decides B b → Decides ((P → A) × ((P → ⊥) → B)) (pick t a b)
+either-way {t = t} = either-by t
+
+-- A test that always passes, one that never does, and one whose failure is asked.
+pub always : Decides (Unit {0}) true
+always = record { yes = λ e. tt; no = λ h. refl }
+
 pub never : Decides ⊥ false
 never = record { yes = λ e. false≢true e; no = λ h. absurd h }
 

@@ -28,6 +28,15 @@ module _ {A : Type 0} where
       (λ l. List·getD-append (tab n f) (f n ∷ []) d i (rw (length-tab n f) l) ∙ getD-tab d n f i l)
       (eq-or-lt-of-le (le-of-suc-le-suc h))
 
+  -- Two functions with the same first n values.
+  pub tab-same : (n : ℕ) (f g : ℕ → A) → ((i : ℕ) → i < n → f i ≡ g i) → tab n f ≡ tab n g
+  unfolding tab
+  tab-same zero f g h = refl
+  tab-same (suc n) f g h = λ i. tab-same n f g (λ k l. h k (le-step l)) i ++ (h n (le-refl (suc n)) i ∷ [])
+
+  pub same-tab : (n : ℕ) (f g : ℕ → A) → tab n f ≡ tab n g → (i : ℕ) → i < n → f i ≡ g i
+  same-tab n f g e i l = sym (getD-tab (f 0) n f i l) ∙ ap (λ (t : List A). getD t i (f 0)) e ∙ getD-tab (f 0) n g i l
+
 -- Entry e of a list of numbers below n is one that passes.
 pub record PassAt (n : ℕ) (test : ℕ → Bool) (l : List ℕ) (e : ℕ) : Type 0 where
   pub small : getD l e 0 < n

@@ -10,7 +10,7 @@ use borrow.Author.Tests.{lt-ltb, le-ltb}
 use native.Mathlib.Nat.{eq-or-lt-of-le}
 use native.Mathlib.Omega.{arith}
 use Rattle.folder.specs.Scan.{firstBad}
-use Rattle.folder.specs.Table.{Row, Rule, row, single, allRules, firstBroken, outcome, Holds, AllHold, none, more, BrokenAt, Broken, BrokenRule}
+use Rattle.folder.specs.Table.{Row, Rule, single, allRules, firstBroken, outcome, Holds, AllHold, none, more, BrokenAt, Broken, BrokenRule}
 use Rattle.folder.specs.declared.Refusal.{Refusal}
 use Rattle.folder.specs.declared.Outcome.{Outcome}
 use Rattle.folder.specs.declared.Outcome.the-variants.{Accepted, Refused}
@@ -111,27 +111,47 @@ broken-refused (Broken.here {r = r} {rs = rs} b) =
 broken-refused (Broken.later {r = r} {rs = rs} h b) = passes r rs h ∙ broken-refused b
 
 -- ---- what each row of a table asks, and all of them
-pub row-asks : {P : ℕ → Type 0} (number count : ℕ) (ok : ℕ → Bool) → ((p : ℕ) → Decides (P p) (ok p)) → Holds (row number count ok) ↔ ((p : ℕ) → p < count → P p)
-row-asks number count ok d = ((λ h p l. d p .yes (h .at p l)), λ f. record { at = λ p l. d p .no (f p l) })
+pub row-asks : (r : Row) {P : ℕ → Type 0} → ((p : ℕ) → Decides (P p) (r .ok p)) → Holds r ↔ ((p : ℕ) → p < r .count → P p)
+row-asks r d = ((λ h p l. d p .yes (h .at p l)), λ f. record { at = λ p l. d p .no (f p l) })
 
 pub single-asks : {P : Type 0} (number place : ℕ) {ok : Bool} → Decides P ok → Holds (single number place ok) ↔ P
 single-asks number place d = ((λ h. d .yes (h .at 0 (omega arith))), λ p. record { at = λ k l. d .no p })
 
+head-holds : {r : Row} {rs : List Row} → AllHold (r ∷ rs) → Holds r
+head-holds (more h t) = h
+
+tail-holds : {r : Row} {rs : List Row} → AllHold (r ∷ rs) → AllHold rs
+tail-holds (more h t) = t
+
 infixr 20 _row-and_
 pub _row-and_ : {r : Row} {rs : List Row} {P Q : Type 0} → Holds r ↔ P → AllHold rs ↔ Q → AllHold (r ∷ rs) ↔ (P × Q)
-p row-and q = (λ a. (p .0 (head a), q .0 (tail a)), λ h. more (p .1 (h .0)) (q .1 (h .1)))
-  where
-    head : {r : Row} {rs : List Row} → AllHold (r ∷ rs) → Holds r
-    head (more h t) = h
-
-    tail : {r : Row} {rs : List Row} → AllHold (r ∷ rs) → AllHold rs
-    tail (more h t) = t
+p row-and q = ((λ a. (p .0 (head-holds a), q .0 (tail-holds a))), λ h. more (p .1 (h .0)) (q .1 (h .1)))
 
 pub no-rows : AllHold [] ↔ Unit {0}
 no-rows = ((λ a. tt), λ u. none)
 
-pub accepted-asks : {rs : List Row} {P Q : Type 0} → AllHold rs ↔ P → (P → Q) → (Q → P) → (outcome rs ≡ Accepted) ↔ Q
-accepted-asks {rs} e f g = ((λ h. f (e .0 (accepted-holds rs h))), λ q. holds-accepted (e .1 (g q)))
+-- The same in other words.
+pub put-so : {A P Q : Type 0} → A ↔ P → (P → Q) → (Q → P) → A ↔ Q
+put-so e f g = ((λ a. f (e .0 a)), λ q. e .1 (g q))
+
+first-hold : (xs ys : List Row) → AllHold (xs ++ ys) → AllHold xs
+first-hold [] ys a = none
+first-hold (x ∷ xs) ys a = more (head-holds a) (first-hold xs ys (tail-holds a))
+
+then-hold : (xs ys : List Row) → AllHold (xs ++ ys) → AllHold ys
+then-hold [] ys a = a
+then-hold (x ∷ xs) ys a = then-hold xs ys (tail-holds a)
+
+all-hold : {xs ys : List Row} → AllHold xs → AllHold ys → AllHold (xs ++ ys)
+all-hold none b = b
+all-hold (more h a) b = more h (all-hold a b)
+
+-- A table after a table.
+pub tables-ask : (xs : List Row) {ys : List Row} {P Q : Type 0} → AllHold xs ↔ P → AllHold ys ↔ Q → AllHold (xs ++ ys) ↔ (P × Q)
+tables-ask xs {ys} p q = ((λ a. (p .0 (first-hold xs ys a), q .0 (then-hold xs ys a))), λ h. all-hold (p .1 (h .0)) (q .1 (h .1)))
+
+pub accepted-asks : {rs : List Row} {P : Type 0} → AllHold rs ↔ P → (outcome rs ≡ Accepted) ↔ P
+accepted-asks {rs} e = ((λ h. e .0 (accepted-holds rs h)), λ p. holds-accepted (e .1 p))
 
 -- ---- a table after a table: the first one's refusal, or the second one's outcome
 accepted-append : {xs : List Row} (ys : List Row) → AllHold xs → outcome (xs ++ ys) ≡ outcome ys

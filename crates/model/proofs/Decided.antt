@@ -11,12 +11,12 @@ use lib.ListN.{length}
 use lib.IntN.{ℤ}
 use Rattle.mdp.specs.Sums.{sum}
 use Rattle.folder.specs.Contents.{body}
-use Rattle.folder.specs.Table.{Row, Holds, AllHold, none, more, Broken, outcome}
+use Rattle.folder.specs.Table.{AllHold, Broken}
 use Rattle.folder.specs.declared.Refusal.{Refusal}
 use Rattle.folder.specs.declared.Outcome.the-variants.{Accepted, Refused}
 use Rattle.folder.proofs.Decides.{Decides, at-most, at-mostZ, same, unless, whenever, _∧also_, everywhere, reworded}
 use Rattle.folder.proofs.ContentsLaws.{entry-decided as contents-decided}
-use Rattle.folder.proofs.TableLaws.{refused-broken, row-asks, single-asks, _row-and_, no-rows, accepted-asks}
+use Rattle.folder.proofs.TableLaws.{refused-broken, row-asks, single-asks, _row-and_, no-rows, put-so, tables-ask, accepted-asks}
 use Rattle.expressions.specs.Ranges.{rangeOf}
 use Rattle.expressions.specs.Right.{IsNumber, IsTruth, Inside}
 use Rattle.expressions.proofs.Decided.{number-decided, truth-decided, inside-decided, entry-decided, range-decided}
@@ -24,7 +24,7 @@ use Rattle.model.specs.Limits.{leastBytes, mostBytes, leastBound, mostBo
 use Rattle.model.specs.Layout.{bodies, recordSize, recordCount, mostOf}
 use Rattle.model.specs.Model.{Model, modelOf, bound, firstRecord}
 use Rattle.model.specs.Rules.{bytesFit, recordsFit, variableFits, termsFit, commandFits, recordsAddUp, assignedFits, branchFits, weightsTotal}
-use Rattle.model.specs.Table.{modelRows, contentRows, modelOutcome}
+use Rattle.model.specs.Table.{folderRows, contentRows, modelRows, modelOutcome}
 use Rattle.model.specs.Valid.{RecordsRight, VariableRight, CommandRight, BranchRight, ModelRight, FolderRight, Valid}
 
 bytes-decided : (m : List ℕ) → Decides ((leastBytes ≤ length m) × (length m ≤ mostBytes)) (bytesFit m)
@@ -76,45 +76,47 @@ module _ (M : Model) where
   unfolding termsFit
   terms-decided p = whenever (same p 0) (unless (same (M .total) 0)) ∧also whenever (same p 1) (truth-decided (M .entries) (M .target))
 
+-- Rows 1 to 3, and 4 to 11.
+pub folder-asks : (m : List ℕ) → AllHold (folderRows m) ↔ FolderRight m
+folder-asks m = put-so
+    (single-asks 1 0 (bytes-decided m) row-and row-asks _ (contents-decided m bodies) row-and row-asks _ (records-decided m) row-and no-rows)
+    (λ h. record { long = h .0 .0; short = h .0 .1; contents = h .1 .0; records = h .1 .1 .0 })
+    (λ r. ((r .long, r .short), (r .contents, (r .records, tt))))
+
+content-asks : (M : Model) → AllHold (contentRows M) ↔ ModelRight M
+content-asks M = put-so
+    (row-asks _ (variable-decided M)
+    row-and row-asks _ (entry-decided (M .entries) (M .variables))
+    row-and row-asks _ (range-decided (M .entries) (bound M))
+    row-and row-asks _ (terms-decided M)
+    row-and row-asks _ (command-decided M)
+    row-and single-asks 9 0 (records-add-up M)
+    row-and row-asks _ (branch-decided M)
+    row-and row-asks _ (weights-decided M)
+    row-and no-rows)
+    (λ h. record {
+      variables = h .0;
+      entries = h .1 .0;
+      ranges = h .1 .1 .0;
+      total = h .1 .1 .1 .0 0 (omega arith) .0 refl;
+      target = h .1 .1 .1 .0 1 (omega arith) .1 refl;
+      commands = h .1 .1 .1 .1 .0;
+      records = h .1 .1 .1 .1 .1 .0;
+      branches = h .1 .1 .1 .1 .1 .1 .0;
+      weights = h .1 .1 .1 .1 .1 .1 .1 .0;
+    })
+    (λ r. (r .variables, (r .entries, (r .ranges, ((λ p l. ((λ e. r .total), λ e. r .target)), (r .commands, (r .records, (r .branches, (r .weights, tt)))))))))
+
+pub model-asks : (m : List ℕ) → AllHold (modelRows m) ↔ Valid m
+model-asks m = put-so
+    (tables-ask (folderRows m) (folder-asks m) (content-asks (modelOf m)))
+    (λ h. record { folder = h .0; model = h .1 })
+    (λ v. (v .folder, v .model))
+
 -- The model check accepts if and only if the folder and model rules hold.
 pub accepted-valid : (m : List ℕ) → (modelOutcome m ≡ Accepted) ↔ Valid m
 unfolding modelOutcome
-accepted-valid m = accepted-asks
-    (single-asks 1 0 (bytes-decided m)
-    row-and row-asks 2 bodies _ (contents-decided m bodies)
-    row-and row-asks 3 bodies _ (records-decided m)
-    row-and row-asks 4 (modelOf m .variables) _ (variable-decided (modelOf m))
-    row-and row-asks 5 (modelOf m .entries .count) _ (entry-decided (modelOf m .entries) (modelOf m .variables))
-    row-and row-asks 6 (modelOf m .entries .count) _ (range-decided (modelOf m .entries) (bound (modelOf m)))
-    row-and row-asks 7 2 _ (terms-decided (modelOf m))
-    row-and row-asks 8 (modelOf m .commands) _ (command-decided (modelOf m))
-    row-and single-asks 9 0 (records-add-up (modelOf m))
-    row-and row-asks 10 (modelOf m .records) _ (branch-decided (modelOf m))
-    row-and row-asks 11 (modelOf m .commands) _ (weights-decided (modelOf m))
-    row-and no-rows)
-    (λ h. record {
-      folder = record { long = h .0 .0; short = h .0 .1; contents = h .1 .0; records = h .1 .1 .0 };
-      model = record {
-        variables = h .1 .1 .1 .0;
-        entries = h .1 .1 .1 .1 .0;
-        ranges = h .1 .1 .1 .1 .1 .0;
-        total = h .1 .1 .1 .1 .1 .1 .0 0 (omega arith) .0 refl;
-        target = h .1 .1 .1 .1 .1 .1 .0 1 (omega arith) .1 refl;
-        commands = h .1 .1 .1 .1 .1 .1 .1 .0;
-        records = h .1 .1 .1 .1 .1 .1 .1 .1 .0;
-        branches = h .1 .1 .1 .1 .1 .1 .1 .1 .1 .0;
-        weights = h .1 .1 .1 .1 .1 .1 .1 .1 .1 .1 .0;
-      };
-    })
-    (λ v.
-    let F = v .folder in
-    let R = v .model in (
-      (F .long, F .short),
-      (
-        F .contents,
-        (F .records, (R .variables, (R .entries, (R .ranges, ((λ p l. ((λ e. R .total), λ e. R .target)), (R .commands, (R .records, (R .branches, (R .weights, tt))))))))),
-      ),
-    ))
+accepted-valid m = accepted-asks (model-asks m)
 
 -- A refusal is of the first broken row, at its lowest broken place, and each row before it holds.
 pub refused-first : (m : List ℕ) (f : Refusal) → modelOutcome m ≡ Refused f → Broken (modelRows m) f
