@@ -7,7 +7,9 @@ use mathlib.Core.Logic.{_↔_, _≢_}
 use mathlib.Core.Bool.{Bool, true, false, false≢true}
 use mathlib.Core.List.{List, [], _∷_, _++_}
 use native.Mathlib.Omega.{arith}
+use lib.Dec.{eqb}
 use lib.ListN.{length}
+use Rattle.folder.specs.Pick.{pick}
 use lib.IntN.{ℤ, pos}
 use lib.Signed.{_≤ℤ_}
 use Rattle.mdp.specs.Graph.{along}
@@ -30,14 +32,15 @@ use Rattle.expressions.specs.declared.Truth.the-variants.{True, False, Unknown}
 use Rattle.expressions.proofs.Order.{equal-decided}
 use Rattle.model.specs.Model.{Model, modelOf, firstRecord}
 use Rattle.model.specs.Chances.{mdp, initialState}
-use Rattle.graph.specs.Limits.{leastBytes, mostBytes, mostNodes, units}
+use Rattle.graph.specs.Limits.{leastBytes, mostBytes, mostNodes, units, mostSteps}
 use Rattle.graph.specs.Simulation.{Simulation, bodies, nodeSize, nodeCount, simulationOf, graph}
 use Rattle.graph.specs.Labels.{tracks, concreteState, numberOf, truthOf}
 use Rattle.graph.specs.Rules.{bytesFit, nodesFit, headFits, valuesFit, nodeFits, edgeFits, edgesFit, rootFits, A1, A2, enabledIn, B1, resultIs, labelFollows, follows, edgeFollows, B2, C3, C1, C2, valueFits}
 use Rattle.graph.specs.Table.{folderRows, nodeRules, contentRows, graphRows, graphOutcome}
 use Rattle.model.specs.Table.{modelRows}
 use Rattle.model.proofs.Decided.{model-asks}
-use Rattle.graph.specs.Valid.{FolderRight, NodeRight, EdgeRight, StartsInitial, RightA1, RightA2, RightB1, Follows, RightB2, RightC3, RightC1, RightC2, RightValue, GraphRight, Valid}
+use Rattle.graph.specs.Figures.{figureRows, figureOutcome}
+use Rattle.graph.specs.Valid.{FigureRight, FolderRight, NodeRight, EdgeRight, StartsInitial, RightA1, RightA2, RightB1, Follows, RightB2, RightC3, RightC1, RightC2, RightValue, GraphRight, Valid}
 
 -- ---- the readings
 known-decided : (t : Truth) → Decides (t ≢ Unknown) (isKnown t)
@@ -51,7 +54,7 @@ known-decided False = record { yes = λ e h. apart h; no = λ h. refl }
     apart e = let z : _≡_ {A = ℕ} 0 1 = cc in omega arith
 known-decided Unknown = record { yes = λ e. absurd (false≢true e); no = λ h. absurd (h refl) }
 
-true-decided : (t : Truth) → Decides (t ≡ True) (isTrue t)
+pub true-decided : (t : Truth) → Decides (t ≡ True) (isTrue t)
 true-decided True = record { yes = λ e. refl; no = λ e. refl }
 true-decided False = record { yes = λ e. absurd (false≢true e); no = λ e. cc }
 true-decided Unknown = record { yes = λ e. absurd (false≢true e); no = λ e. cc }
@@ -244,10 +247,12 @@ folder-asks M g = put-so
     (λ h. record { long = h .0 .0; short = h .0 .1; contents = h .1 .0; whole = h .1 .1 .0 .0 .0; some = h .1 .1 .0 .0 .1; few = h .1 .1 .0 .1 })
     (λ r. ((r .long, r .short), (r .contents, (((r .whole, r .some), r .few), tt))))
 
-pub graph-asks : (m g : List ℕ) → AllHold (modelRows m ++ graphRows (modelOf m) g) ↔ Valid m g
+rows-ask : (M : Model) (g : List ℕ) → AllHold (graphRows M g) ↔ (FolderRight M g × GraphRight M (simulationOf M g))
+rows-ask M g = tables-ask (folderRows M g) (folder-asks M g) (content-asks M (simulationOf M g))
+
+graph-asks : (m g : List ℕ) → AllHold (modelRows m ++ graphRows (modelOf m) g) ↔ Valid m g
 graph-asks m g = put-so
-    (tables-ask (modelRows m) (model-asks m)
-    (tables-ask (folderRows (modelOf m) g) (folder-asks (modelOf m) g) (content-asks (modelOf m) (simulationOf (modelOf m) g))))
+    (tables-ask (modelRows m) (model-asks m) (rows-ask (modelOf m) g))
     (λ h. record { model = h .0; folder = h .1 .0; graph = h .1 .1 })
     (λ v. (v .model, (v .folder, v .graph)))
 
@@ -260,3 +265,26 @@ accepted-valid m g = accepted-asks (graph-asks m g)
 pub refused-first : (m g : List ℕ) (f : Refusal) → graphOutcome m g ≡ Refused f → Broken (modelRows m ++ graphRows (modelOf m) g) f
 unfolding graphOutcome
 refused-first m g f e = refused-broken (modelRows m ++ graphRows (modelOf m) g) f e
+
+-- Rows 26 to 28.
+figure-asks : (G : Simulation) (h : ℕ) (first second : List ℕ) → AllHold (figureRows G h first second) ↔ FigureRight G h first second
+figure-asks G h first second = put-so
+    (row-asks _ (λ n. unless (same (G .kind n) 0))
+    row-and single-asks 27 0 (at-most h mostSteps)
+    row-and row-asks _ (λ p. at-most (G .nodes) (length (pick (eqb p 0) first second)))
+    row-and no-rows)
+    (λ a. record { none-waits = a .0; few-steps = a .1 .0; first-long = a .1 .1 .0 0 (omega arith); second-long = a .1 .1 .0 1 (omega arith) })
+    (λ r. (r .none-waits, (r .few-steps, ((λ p l. by-row (eqb p 0) (r .first-long) (r .second-long)), tt))))
+  where
+    by-row : (t : Bool) → G .nodes ≤ length first → G .nodes ≤ length second → G .nodes ≤ length (pick t first second)
+    by-row true p q = p
+    by-row false p q = q
+
+-- The figure call is accepted if and only if the graph is, no node waits, and h and both rows are within their limits.
+pub figure-valid : (m g : List ℕ) (h : ℕ) (first second : List ℕ)
+    → (figureOutcome m g h first second ≡ Accepted) ↔ (Valid m g × FigureRight (simulationOf (modelOf m) g) h first second)
+unfolding figureOutcome
+figure-valid m g h first second = accepted-asks (put-so
+    (tables-ask (modelRows m) (model-asks m) (tables-ask (graphRows (modelOf m) g) (rows-ask (modelOf m) g) (figure-asks (simulationOf (modelOf m) g) h first second)))
+    (λ a. (record { model = a .0; folder = a .1 .0 .0; graph = a .1 .0 .1 }, a .1 .1))
+    (λ v. (v .0 .model, ((v .0 .folder, v .0 .graph), v .1))))

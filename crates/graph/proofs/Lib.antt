@@ -1,2 +1,4 @@
 pub mod Decided
+pub mod Labelled
+pub mod Demand
 pub mod PedalCases

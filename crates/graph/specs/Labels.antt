@@ -3,10 +3,8 @@
 use Prim.Native.Nat.{ℕ, _/_, _%_, _^_, _<_}
 use mathlib.Core.Path.{_≡_}
 use mathlib.Core.Bool.{Bool, true}
-use lib.ListN.{length}
 use lib.Dec.{eqb}
 use lib.IntN.{ℤ}
-use lib.Signed.{_≤ℤ_}
 use Rattle.folder.specs.Pick.{pick}
 use Rattle.folder.specs.Tab.{tab}
 use Rattle.expressions.specs.Meaning.{State, valueOf}
@@ -15,6 +13,7 @@ use Rattle.expressions.specs.declared.Number.{Number}
 use Rattle.expressions.specs.declared.Number.the-variants.{Known, Unknown as Open}
 use Rattle.expressions.specs.declared.Truth.{Truth}
 use Rattle.model.specs.Model.{Model}
+use Rattle.model.specs.Chances.{InRange}
 use Rattle.graph.specs.Simulation.{Simulation}
 
 -- A set has bit i for variable i.
@@ -41,13 +40,7 @@ module _ (M : Model) (G : Simulation) where
   abbrev pub truthOf : ℕ → ℕ → Truth
   truthOf n e = readTruth (M .entries) (look G n) e
 
-  -- A state of the model: one value per variable, each in its range.
-  pub record InRange (s : State) : Type 0 where
-    pub long : length s ≡ M .variables
-    pub low : (v : ℕ) → v < M .variables → M .low v ≤ℤ valueOf s v
-    pub high : (v : ℕ) → v < M .variables → valueOf s v ≤ℤ M .high v
-
   -- The label of node n contains the states that agree with it on the tracked variables.
   pub record Contains (n : ℕ) (s : State) : Type 0 where
-    pub state : InRange s
+    pub state : InRange M s
     pub agrees : (v : ℕ) → v < M .variables → tracks G n v ≡ true → valueOf s v ≡ G .label n v

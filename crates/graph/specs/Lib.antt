@@ -6,3 +6,4 @@ pub mod Table
 pub mod Figures
 pub mod Pedal
 pub mod Valid
+pub mod Demand

@@ -18,7 +18,7 @@ use Rattle.expressions.specs.declared.Truth.the-variants.{True, False, Unknown}
 use Rattle.model.specs.Model.{Model, modelOf, firstRecord}
 use Rattle.model.specs.Chances.{mdp, initialState}
 use Rattle.model.specs.Valid as Models
-use Rattle.graph.specs.Limits.{leastBytes, mostBytes, mostNodes, units}
+use Rattle.graph.specs.Limits.{leastBytes, mostBytes, mostNodes, units, mostSteps}
 use Rattle.graph.specs.Simulation.{Simulation, bodies, nodeSize, nodeCount, simulationOf, graph, kindOf}
 use Rattle.graph.specs.Labels.{tracks, concreteState, numberOf, truthOf}
 use Rattle.graph.specs.Rules.{enabledIn}
@@ -119,3 +119,10 @@ pub record Valid (m g : List ℕ) : Type 0 where
   pub model : Models.Valid m
   pub folder : FolderRight (modelOf m) g
   pub graph : GraphRight (modelOf m) (simulationOf (modelOf m) g)
+
+-- Rows 26 to 28: no node waits, h is at most 10,000, and no row is shorter than the nodes.
+pub record FigureRight (G : Simulation) (h : ℕ) (first second : List ℕ) : Type 0 where
+  pub none-waits : (n : ℕ) → n < G .nodes → G .kind n ≢ 0
+  pub few-steps : h ≤ mostSteps
+  pub first-long : G .nodes ≤ length first
+  pub second-long : G .nodes ≤ length second

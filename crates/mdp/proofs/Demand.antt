@@ -11,7 +11,7 @@ use Rattle.mdp.proofs.Figures.{figure-above, figure-near}
 
 module _ (M : Mdp) (F : Fair M) (G : Graph) (S : ℕ) (In : ℕ → M .State → Type 0) (L : Labelled M G In) (value : ℕ → ℕ) (R : Valued M G S value) where
   pub demand : (initial : M .State) (concrete : ℕ → M .State) → 0 < G .nodes → In 0 initial → ((n : ℕ) → n < G .nodes → In n (concrete n))
-      → Demand3 M G S initial concrete (value 0)
+      → Demand3 M S G initial concrete (value 0)
   demand initial concrete some-node root own = record {
     bound = λ σ k. strategy-bound M G S F In L value R σ k 0 some-node initial root;
     figures = λ none h n l. record {

@@ -2,14 +2,15 @@
 --     weighed         one law for all weighted sums: a bound on each part is a bound on the whole
 --     greatest-above, greatest-below   the greatest is an upper bound, and the least one
 --     attained        the greatest is 0, or one of the values
+--     sum-more        a part of the sum
 -- Assumes nothing.
 use Prim.Native.Nat.{ℕ, zero, suc, _+_, _*_, _≤_, _<_, zero-le, max}
 use native.Mathlib.Nat.{le-step, le-refl, le-trans, le-of-suc-le-suc, not-suc-le-zero, mul-le-mul-left, max-le, le-max-left, le-max-right, eq-or-lt-of-le}
 use native.Mathlib.Nat.{max-eq-left, max-eq-right}
 use native.Mathlib.Decide.{decLe}
 use native.Mathlib.Omega.{arith}
-use mathlib.Core.Path.{_≡_, refl, sym, ap, _∙_}
-use mathlib.Core.Logic.{_⊎_, inl, inr}
+use mathlib.Core.Path.{_≡_, refl, sym, ap, _∙_, subst}
+use mathlib.Core.Logic.{_⊎_, inl, inr, ⊎-elim}
 use Rattle.mdp.specs.Sums.{sum, greatest}
 
 pub weighed : (n : ℕ) (w : ℕ → ℕ) (p q : (i : ℕ) → i < n → ℕ) (a b c : ℕ) → ((i : ℕ) (h : i < n) → a * p i h ≤ b * q i h + c)
@@ -53,3 +54,11 @@ attained (suc n) f = go (attained n f) (decLe (greatest n (λ j _. f j)) (f n))
 
 pub sum-eq : (n : ℕ) (f g : (i : ℕ) → i < n → ℕ) → ((i : ℕ) (h : i < n) → f i h ≡ g i h) → sum n f ≡ sum n g
 sum-eq n f g h = ap (sum n) (λ i j l. h j l i)
+
+-- What comes before c, and c itself, is part of the sum.
+pub sum-more : (n : ℕ) (f : ℕ → ℕ) (c : ℕ) → c < n → sum c (λ i _. f i) + f c ≤ sum n (λ i _. f i)
+sum-more zero f c h = absurd (not-suc-le-zero h)
+sum-more (suc n) f c h =
+    ⊎-elim (λ e. subst (λ (k : ℕ). sum k (λ i _. f i) + f k ≤ sum (suc n) (λ i _. f i)) (sym e) (le-refl _))
+    (λ l. omega (arith, sum-more n f c l))
+    (eq-or-lt-of-le (le-of-suc-le-suc h))

@@ -1,0 +1,196 @@
+-- What the rules give of a graph's labels and values, in the words of the theory of simulation graphs.
+-- Assumes nothing.
+use Prim.Native.Nat.{ℕ, zero, suc, _+_, _*_, _/_, _%_, _^_, _<_, _≤_}
+use mathlib.Core.Path.{_≡_, refl, sym, ap, _∙_, subst}
+use mathlib.Core.Logic.{_≢_}
+use mathlib.Core.Bool.{Bool, true, false, false≢true}
+use mathlib.Core.List.{List}
+use native.Mathlib.Nat.{pow-le-pow-right, div-eq-of-lt, div-lt-iff-lt-mul, one-le-pow, le-trans, not-suc-le-zero, le-of-suc-le-suc}
+use native.Mathlib.Decide.{decLt}
+use native.Mathlib.Omega.{arith}
+use lib.ListN.{length, getD}
+use lib.IntN.{ℤ, pos}
+use Rattle.mdp.specs.Kinds.{Kind}
+use Rattle.mdp.specs.Mdp.{Mdp}
+use Rattle.mdp.specs.Graph.{Graph, Labelled, Valued}
+use Rattle.folder.specs.Pick.{pick}
+use Rattle.folder.specs.Tab.{tab, passing}
+use Rattle.folder.proofs.TabLaws.{length-tab, getD-tab, PassAt, passing-at, Has, passing-has}
+use Rattle.expressions.specs.Meaning.{State, valueOf, numberIn, truthIn}
+use Rattle.expressions.specs.Reading.{isTrue, knownTruth}
+use Rattle.expressions.specs.declared.Number.{Number}
+use Rattle.expressions.specs.declared.Number.the-variants.{Known, Unknown as Open}
+use Rattle.expressions.specs.declared.Truth.{Truth}
+use Rattle.expressions.specs.declared.Truth.the-variants.{True, False, Unknown}
+use Rattle.expressions.proofs.Sound.{Says, SaysT, number-sound, truth-sound, known-is, true-is, false-is, known-truth}
+use Rattle.model.specs.Model.{Model, firstRecord}
+use Rattle.model.specs.Chances.{mdp, next, initialState, InRange}
+use Rattle.model.specs.Valid.{ModelRight}
+use Rattle.model.proofs.Chances.{next-in-range}
+use Rattle.graph.specs.Limits.{units}
+use Rattle.graph.specs.Simulation.{Simulation, graph, kindOf}
+use Rattle.graph.specs.Labels.{hasBit, tracks, look, concreteState, numberOf, truthOf, Contains}
+use Rattle.graph.specs.Rules.{enabledIn}
+use Rattle.graph.specs.Valid.{GraphRight}
+use Rattle.graph.proofs.Decided.{true-decided}
+
+-- ---- kinds
+data KindNumber : ℕ → Type 0 where
+  zeroth : KindNumber 0
+  first : KindNumber 1
+  second : KindNumber 2
+  third : KindNumber 3
+
+kind-number : (k : ℕ) → k ≤ 3 → KindNumber k
+kind-number zero h = zeroth
+kind-number (suc zero) h = first
+kind-number (suc (suc zero)) h = second
+kind-number (suc (suc (suc zero))) h = third
+kind-number (suc (suc (suc (suc k)))) h = absurd (not-suc-le-zero (le-of-suc-le-suc (le-of-suc-le-suc (le-of-suc-le-suc h))))
+
+-- A kind's number, by cases.
+abbrev numberOfKind : Kind → ℕ
+numberOfKind Kind.waiting = 0
+numberOfKind Kind.expanded = 1
+numberOfKind Kind.covered = 2
+numberOfKind Kind.target = 3
+
+kind-back : {k : ℕ} → KindNumber k → numberOfKind (kindOf k) ≡ k
+unfolding kindOf
+kind-back zeroth = refl
+kind-back first = refl
+kind-back second = refl
+kind-back third = refl
+
+pub kind-is : (k : ℕ) → k ≤ 3 → (κ : Kind) → kindOf k ≡ κ → k ≡ numberOfKind κ
+kind-is k h κ e = sym (kind-back (kind-number k h)) ∙ ap numberOfKind e
+
+pub kind-of-number : (κ : Kind) → kindOf (numberOfKind κ) ≡ κ
+unfolding kindOf
+kind-of-number Kind.waiting = refl
+kind-of-number Kind.expanded = refl
+kind-of-number Kind.covered = refl
+kind-of-number Kind.target = refl
+
+-- ---- tracked sets: no bit at or past w
+no-bit : (t w i : ℕ) → t / 2 ^ w ≡ 0 → w ≤ i → hasBit t i ≡ false
+unfolding hasBit
+no-bit t w i e l =
+    let p : 0 < 2 ^ w = one-le-pow w 2 (omega arith) in
+    let h : t / 2 ^ w < 1 = omega arith in
+    let a : t < 1 * 2 ^ w = div-lt-iff-lt-mul {k = 2 ^ w} {x = t} {y = 1} p .0 h in
+    let b : 2 ^ w ≤ 2 ^ i = pow-le-pow-right {n = 2} (omega arith) l in
+    rw (div-eq-of-lt {n = t} {m = 2 ^ i} (omega arith))
+
+module _ (M : Model) (R : ModelRight M) (G : Simulation) (A : GraphRight M G) where
+  tracked-there : (n : ℕ) → n < G .nodes → (i : ℕ) → tracks G n i ≡ true → i < M .variables
+  tracked-there n l i t = go (decLt i (M .variables))
+    where
+      go : Dec (i < M .variables) → i < M .variables
+      go (yes h) = h
+      go (no g) = absurd (false≢true (sym (no-bit (G .tracked n) (M .variables) i (A .nodes n l .bits) (omega arith)) ∙ t))
+
+  -- A label says of each variable nothing, or its value in every state that it contains.
+  look-says : (n : ℕ) → n < G .nodes → (s : State) → Contains M G n s → (i : ℕ) → Says (look G n i) (valueOf s i)
+  unfolding look
+  look-says n l s c i = go (tracks G n i) refl
+    where
+      go : (b : Bool) → tracks G n i ≡ b → Says (pick b (Known (G .label n i)) Open) (valueOf s i)
+      go true t = subst (λ (z : ℤ). Says (Known (G .label n i)) z) (sym (c .agrees i (tracked-there n l i t) t)) Says.known
+      go false t = Says.open-number
+
+  module _ (n : ℕ) (l : n < G .nodes) (s : State) (c : Contains M G n s) where
+    says-number : (e : ℕ) → Says (numberOf M G n e) (numberIn (M .entries) s e)
+    says-number = number-sound (M .entries) (look G n) s (look-says n l s c)
+
+    says-truth : (e : ℕ) → SaysT (truthOf M G n e) (truthIn (M .entries) s e)
+    says-truth = truth-sound (M .entries) (look G n) s (look-says n l s c)
+
+  kind-of : (n : ℕ) → n < G .nodes → (κ : Kind) → kindOf (G .kind n) ≡ κ → G .kind n ≡ numberOfKind κ
+  kind-of n l = kind-is (G .kind n) (A .nodes n l .kind)
+
+  -- ---- an expanded node
+  module _ (n : ℕ) (l : n < G .nodes) (x : G .kind n ≡ 1) where
+    abbrev listed : List ℕ
+    listed = passing (M .commands) (enabledIn M G n)
+
+    edge-count : G .edges n ≡ length listed
+    edge-count = sym (length-tab (G .edges n) (G .command n)) ∙ ap length (A .b1 n l x)
+
+    edge-listed : (e : ℕ) → e < G .edges n → G .command n e ≡ getD listed e 0
+    edge-listed e h = sym (getD-tab 0 (G .edges n) (G .command n) e h) ∙ ap (λ (t : List ℕ). getD t e 0) (A .b1 n l x)
+
+    edge-passes : (e : ℕ) → e < G .edges n → enabledIn M G n (G .command n e) ≡ true
+    edge-passes e h = rw (edge-listed e h) (passing-at (M .commands) (enabledIn M G n) e (omega (arith, edge-count)) .passes)
+
+    edge-on : (e : ℕ) → e < G .edges n → (s : State) → Contains M G n s → truthIn (M .entries) s (M .guard (G .command n e)) ≡ true
+    edge-on e h s c = true-is (says-truth n l s c (M .guard (G .command n e))) (true-decided _ .yes (edge-passes e h))
+
+    enabled-reads : (d : ℕ) → d < M .commands → (s : State) → Contains M G n s → truthIn (M .entries) s (M .guard d) ≡ true → enabledIn M G n d ≡ true
+    enabled-reads d h s c o = ap isTrue (known-truth (says-truth n l s c (M .guard d)) (A .a2 n l .guards x d h) ∙ ap knownTruth o)
+
+    edge-every : (d : ℕ) → d < M .commands → (s : State) → Contains M G n s → truthIn (M .entries) s (M .guard d) ≡ true
+        → (e : ℕ) × (e < G .edges n) × (G .command n e ≡ d)
+    edge-every d h s c o =
+        let f = passing-has (M .commands) (enabledIn M G n) d h (enabled-reads d h s c o) in
+        let k : f .0 < G .edges n = omega (arith, f .1, edge-count) in
+        (f .0, k, edge-listed (f .0) k ∙ f .2)
+
+    edge-within : (e : ℕ) → e < G .edges n → (b : ℕ) → b < M .branches (G .command n e) → (s : State) → Contains M G n s
+        → Contains M G (G .successor n e b) (next M (G .command n e) b s)
+    unfolding next
+    edge-within e h b k s c = record {
+      state = next-in-range M R (G .command n e) b (A .edges n l e h .command) k s (c .state);
+      agrees = λ v p t.
+          getD-tab (pos 0) (M .variables) (λ w. numberIn (M .entries) s (M .assigned (firstRecord M (G .command n e) + b) w)) v p
+          ∙ known-is (G .label (G .successor n e b) v) (says-number n l s c (M .assigned (firstRecord M (G .command n e) + b) v)) (A .b2 n l x e h b k .label v p t);
+    }
+
+  -- ---- all nodes
+  pub labelled : Labelled (mdp M) (graph G) (Contains M G)
+  labelled = record {
+    targets = λ n l κ. record { reached = λ s c. true-is (says-truth n l s c (M .target)) (A .a2 n l .target (kind-of n l Kind.target κ)) };
+    covereds = λ n l κ.
+        let k : G .kind n ≡ 2 = kind-of n l Kind.covered κ in
+        let cover-there : G .cover n < G .nodes = A .c3 n l k .0 in
+        record {
+          known = cover-there;
+          open-cover = λ e. A .c3 n l k .1 (kind-of (G .cover n) cover-there Kind.covered e);
+          within = λ s c. record {
+            state = c .state;
+            agrees = λ v p t. let h = A .c2 n l k v p t in c .agrees v p (h .0) ∙ h .1;
+          };
+        };
+    expandeds = λ n l κ.
+        let k : G .kind n ≡ 1 = kind-of n l Kind.expanded κ in
+        record {
+          no-target = λ s c. false-is (says-truth n l s c (M .target)) (A .a2 n l .no-target k);
+          known = λ e h. A .edges n l e h .command;
+          on = edge-on n l k;
+          every = edge-every n l k;
+          leads = λ e h. A .edges n l e h .successors;
+          within = edge-within n l k;
+        };
+  }
+
+  pub valued : Valued (mdp M) (graph G) units (G .value)
+  valued = record {
+    waitings = λ n l κ. A .values n l .waiting (kind-of n l Kind.waiting κ);
+    targets = λ n l κ. A .values n l .target (kind-of n l Kind.target κ);
+    covereds = λ n l κ. A .values n l .covered (kind-of n l Kind.covered κ);
+    expandeds = λ n l κ. A .values n l .expanded (kind-of n l Kind.expanded κ);
+  }
+
+  -- ---- the labels contain their nodes' concrete labels, the root's the initial state
+  pub own : (n : ℕ) → n < G .nodes → Contains M G n (concreteState M G n)
+  own n l = record {
+    state = record {
+      long = length-tab (M .variables) (G .concrete n);
+      low = λ v p. rw (getD-tab (pos 0) (M .variables) (G .concrete n) v p) (A .nodes n l .low v p);
+      high = λ v p. rw (getD-tab (pos 0) (M .variables) (G .concrete n) v p) (A .nodes n l .high v p);
+    };
+    agrees = λ v p t. getD-tab (pos 0) (M .variables) (G .concrete n) v p ∙ sym (A .a1 n l v p t);
+  }
+
+  pub root-contains : 0 < G .nodes → Contains M G 0 (initialState M)
+  root-contains l = subst (λ (s : State). Contains M G 0 s) (A .initial) (own 0 l)
