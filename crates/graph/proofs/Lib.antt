@@ -1,4 +1,3 @@
 pub mod Decided
 pub mod Labelled
 pub mod Demand
-pub mod PedalCases
