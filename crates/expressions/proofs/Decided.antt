@@ -1,8 +1,6 @@
 -- The tests of rows 5 and 6 decide their rules.
 -- Assumes nothing.
 use Prim.Native.Nat.{ℕ}
-use mathlib.Core.Path.{_≡_, refl}
-use lib.IntN.{ℤ}
 use Rattle.folder.proofs.Decides.{Decides, at-most, at-mostZ, below, same, _∧also_, _∨else_, never, reworded}
 use Rattle.expressions.specs.Entries.{Entries, numberForm, truthForm, isNumber, isTruth}
 use Rattle.expressions.specs.Ranges.{rangeOf, inside, limits}

@@ -4,3 +4,7 @@ pub mod Parts
 pub mod Related
 pub mod Sound
 pub mod Interval
+pub mod Forms
+pub mod Levels
+pub mod Whole
+pub mod Small

@@ -1,13 +1,13 @@
 -- The order on ℤ: a ⊑ b where b is a and a natural number more. Sums, differences, products, the smaller and the larger of two keep it.
 -- Assumes nothing.
 use Prim.Native.Nat.{ℕ, zero, suc, _+_, _-_, _<_, _≤_}
-use mathlib.Core.Path.{_≡_, refl, sym, ap, ap₂, subst, subst₂, _∙_}
+use mathlib.Core.Path.{_≡_, refl, sym, ap}
 use mathlib.Core.Bool.{Bool, true, false, cond, false≢true}
 use native.Mathlib.Nat.{le-trans, le-suc, le-of-lt, le-antisymm}
 use native.Mathlib.Omega.{arith}
 use borrow.Author.Tests.{lt-ltb, le-ltb, leb-true, leb-false, le-leb}
 use lib.Dec.{ltb, leb}
-use lib.IntN.{ℤ, pos, negsuc, negℤ, subℕ, _+ℤ_, _-ℤ_, _*ℤ_, +ℤ-assoc, +ℤ-comm, +ℤ-idr, +ℤ-invl, negℤ-+ℤ, pos-+ℤ-pos, *ℤ-comm, *ℤ-negsuc, sucℤ-*ℤ, zero-*ℤ}
+use lib.IntN.{ℤ, pos, negsuc, negℤ, subℕ, _+ℤ_, _-ℤ_, _*ℤ_, +ℤ-assoc, +ℤ-comm, +ℤ-idr, +ℤ-invl, negℤ-+ℤ, *ℤ-comm, *ℤ-negsuc, sucℤ-*ℤ, zero-*ℤ}
 use lib.Signed.{leZ, mag, _≤ℤ_}
 use Rattle.folder.specs.Pick.{pick}
 use Rattle.folder.proofs.Decides.{Decides, at-mostZ, and-both, both-and}
@@ -65,25 +65,23 @@ pub ⊑-refl : (a : ℤ) → a ⊑ a
 pub ⊑-trans : {a b c : ℤ} → a ⊑ b → b ⊑ c → a ⊑ c
 ⊑-trans {a} h l = record {
   more = h .more + l .more;
-  is = l .is ∙ ap (λ (z : ℤ). z +ℤ pos (l .more)) (h .is) ∙ +ℤ-assoc a (pos (h .more)) (pos (l .more)) ∙ ap (λ (z : ℤ). a +ℤ z) (pos-+ℤ-pos (h .more) (l .more));
+  is = cc (+ℤ-assoc a (pos (h .more)) (pos (l .more)));
 }
 
 swap : (a b c d : ℤ) → (a +ℤ b) +ℤ (c +ℤ d) ≡ (a +ℤ c) +ℤ (b +ℤ d)
 swap a b c d =
-    +ℤ-assoc a b (c +ℤ d)
-    ∙ ap (λ (z : ℤ). a +ℤ z) (sym (+ℤ-assoc b c d) ∙ ap (λ (z : ℤ). z +ℤ d) (+ℤ-comm b c) ∙ +ℤ-assoc c b d)
-    ∙ sym (+ℤ-assoc a c (b +ℤ d))
+    cc (+ℤ-assoc a b (c +ℤ d), +ℤ-assoc b c d, +ℤ-comm b c, +ℤ-assoc c b d, +ℤ-assoc a c (b +ℤ d))
 
 pub add-mono : {a b c d : ℤ} → a ⊑ b → c ⊑ d → a +ℤ c ⊑ b +ℤ d
 add-mono {a} {b} {c} {d} h l = record {
   more = h .more + l .more;
-  is = ap₂ _+ℤ_ (h .is) (l .is) ∙ swap a (pos (h .more)) c (pos (l .more)) ∙ ap (λ (z : ℤ). (a +ℤ c) +ℤ z) (pos-+ℤ-pos (h .more) (l .more));
+  is = cc (swap a (pos (h .more)) c (pos (l .more)));
 }
 
 neg-anti : {a b : ℤ} → a ⊑ b → negℤ b ⊑ negℤ a
 neg-anti {a} {b} h = record {
   more = h .more;
-  is = sym (ap (λ (z : ℤ). negℤ z +ℤ pos (h .more)) (h .is) ∙ ap (λ (z : ℤ). z +ℤ pos (h .more)) (negℤ-+ℤ a (pos (h .more))) ∙ +ℤ-assoc (negℤ a) (negℤ (pos (h .more))) (pos (h .more)) ∙ ap (λ (z : ℤ). negℤ a +ℤ z) (+ℤ-invl (pos (h .more))) ∙ +ℤ-idr (negℤ a));
+  is = cc (negℤ-+ℤ a (pos (h .more)), +ℤ-assoc (negℤ a) (negℤ (pos (h .more))) (pos (h .more)), +ℤ-invl (pos (h .more)), +ℤ-idr (negℤ a));
 }
 
 pub sub-mono : {a b c d : ℤ} → a ⊑ b → c ⊑ d → a -ℤ d ⊑ b -ℤ c
@@ -91,14 +89,14 @@ sub-mono {c = c} {d = d} h l = add-mono {c = negℤ d} {d = negℤ c} h (neg-ant
 
 -- A product by a natural number keeps the order; one by a negative number turns it round.
 mul-pos : {a b : ℤ} (n : ℕ) → a ⊑ b → pos n *ℤ a ⊑ pos n *ℤ b
-mul-pos {a} {b} zero h = subst₂ _⊑_ (sym (zero-*ℤ a)) (sym (zero-*ℤ b)) (⊑-refl (pos 0))
-mul-pos {a} {b} (suc n) h = subst₂ _⊑_ (sym (sucℤ-*ℤ (pos n) a)) (sym (sucℤ-*ℤ (pos n) b)) (add-mono (mul-pos n h) h)
+mul-pos {a} {b} zero h = rw (zero-*ℤ a, zero-*ℤ b) (⊑-refl (pos 0))
+mul-pos {a} {b} (suc n) h = rw (sucℤ-*ℤ (pos n) a, sucℤ-*ℤ (pos n) b) (add-mono (mul-pos n h) h)
 
 mul-keeps : {a b : ℤ} (n : ℕ) → a ⊑ b → a *ℤ pos n ⊑ b *ℤ pos n
-mul-keeps {a} {b} n h = subst₂ _⊑_ (*ℤ-comm (pos n) a) (*ℤ-comm (pos n) b) (mul-pos n h)
+mul-keeps {a} {b} n h = rw (*ℤ-comm a (pos n), *ℤ-comm b (pos n)) (mul-pos n h)
 
 mul-turns : {a b : ℤ} (n : ℕ) → a ⊑ b → b *ℤ negsuc n ⊑ a *ℤ negsuc n
-mul-turns {a} {b} n h = subst₂ _⊑_ (sym (*ℤ-negsuc b n)) (sym (*ℤ-negsuc a n)) (neg-anti (mul-keeps (suc n) h))
+mul-turns {a} {b} n h = rw (*ℤ-negsuc b n, *ℤ-negsuc a n) (neg-anti (mul-keeps (suc n) h))
 
 -- A product with one factor between two ends lies above what lies below both end products, and below what lies above them.
 pub mul-above : (L l a h c : ℤ) → l ⊑ a → a ⊑ h → L ⊑ l *ℤ c → L ⊑ h *ℤ c → L ⊑ a *ℤ c
@@ -110,30 +108,28 @@ mul-below U l a h (pos n) p q u v = ⊑-trans (mul-keeps n q) v
 mul-below U l a h (negsuc n) p q u v = ⊑-trans (mul-turns n p) u
 
 pub mul-above-r : (L l a h c : ℤ) → l ⊑ a → a ⊑ h → L ⊑ c *ℤ l → L ⊑ c *ℤ h → L ⊑ c *ℤ a
-mul-above-r L l a h c p q u v = subst (λ (z : ℤ). L ⊑ z) (*ℤ-comm a c) (mul-above L l a h c p q (subst (λ (z : ℤ). L ⊑ z) (*ℤ-comm c l) u) (subst (λ (z : ℤ). L ⊑ z) (*ℤ-comm c h) v))
+mul-above-r L l a h c p q u v = rw (*ℤ-comm c a) (mul-above L l a h c p q (rw (*ℤ-comm c l) at u) (rw (*ℤ-comm c h) at v))
 
 pub mul-below-r : (U l a h c : ℤ) → l ⊑ a → a ⊑ h → c *ℤ l ⊑ U → c *ℤ h ⊑ U → c *ℤ a ⊑ U
-mul-below-r U l a h c p q u v = subst (λ (z : ℤ). z ⊑ U) (*ℤ-comm a c) (mul-below U l a h c p q (subst (λ (z : ℤ). z ⊑ U) (*ℤ-comm c l) u) (subst (λ (z : ℤ). z ⊑ U) (*ℤ-comm c h) v))
+mul-below-r U l a h c p q u v = rw (*ℤ-comm c a) (mul-below U l a h c p q (rw (*ℤ-comm c l) at u) (rw (*ℤ-comm c h) at v))
 
 -- ---- the smaller and the larger of two
 
--- What holds of a where a is the smaller, and of b where b is, holds of the smaller.
-module _ (P : ℤ → Type 0) (a b : ℤ) where
-  min-ind : (a ⊑ b → P a) → (b ⊑ a → P b) → P (minZ a b)
-  unfolding minZ
-  min-ind f g = go (leZ a b) refl
-    where
-      go : (t : Bool) → leZ a b ≡ t → P (pick t a b)
-      go true e = f (le-more a b e)
-      go false e = g (gt-more a b e)
+by-order : (P : ℤ → Type 0) (a b u v : ℤ) → (a ⊑ b → P u) → (b ⊑ a → P v) → P (pick (leZ a b) u v)
+by-order P a b u v f g = go (leZ a b) refl
+  where
+    go : (t : Bool) → leZ a b ≡ t → P (pick t u v)
+    go true e = f (le-more a b e)
+    go false e = g (gt-more a b e)
 
-  max-ind : (a ⊑ b → P b) → (b ⊑ a → P a) → P (maxZ a b)
-  unfolding maxZ
-  max-ind f g = go (leZ a b) refl
-    where
-      go : (t : Bool) → leZ a b ≡ t → P (pick t b a)
-      go true e = f (le-more a b e)
-      go false e = g (gt-more a b e)
+-- What holds of a where a is the smaller, and of b where b is, holds of the smaller.
+min-ind : (P : ℤ → Type 0) (a b : ℤ) → (a ⊑ b → P a) → (b ⊑ a → P b) → P (minZ a b)
+unfolding minZ
+min-ind P a b f g = by-order P a b a b f g
+
+max-ind : (P : ℤ → Type 0) (a b : ℤ) → (a ⊑ b → P b) → (b ⊑ a → P a) → P (maxZ a b)
+unfolding maxZ
+max-ind P a b f g = by-order P a b b a f g
 
 pub min-le-l : (a b : ℤ) → minZ a b ⊑ a
 min-le-l a b = min-ind (λ (z : ℤ). z ⊑ a) a b (λ h. ⊑-refl a) (λ h. h)

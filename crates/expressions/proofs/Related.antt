@@ -54,10 +54,8 @@ module _ {N N′ T T′ : Type 0} (R : Interpretation N T) (R′ : Interpretatio
 
       pub number-related : (x : Entries) (n e : ℕ) → numberAt R x n e ~ numberAt R′ x n e
       number-related x zero e = related .no-number
-      number-related x (suc n) e =
-          number-step {A = λ i. Unit {0}} {B = λ i. Unit {0}} (λ i h. number-related x n i) (λ i h. truth-related x n i) (numberForm x e) (all-number (λ i. tt) (λ i. tt) (numberForm x e))
+      number-related x (suc n) e = number-step (λ i h. h) (λ i h. h) (numberForm x e) (all-number (λ i. number-related x n i) (λ i. truth-related x n i) (numberForm x e))
 
       pub truth-related : (x : Entries) (n e : ℕ) → truthAt R x n e ≈ truthAt R′ x n e
       truth-related x zero e = related .no-truth
-      truth-related x (suc n) e =
-          truth-step {A = λ i. Unit {0}} {B = λ i. Unit {0}} (λ i h. number-related x n i) (λ i h. truth-related x n i) (truthForm x e) (all-truth (λ i. tt) (λ i. tt) (truthForm x e))
+      truth-related x (suc n) e = truth-step (λ i h. h) (λ i h. h) (truthForm x e) (all-truth (λ i. number-related x n i) (λ i. truth-related x n i) (truthForm x e))
