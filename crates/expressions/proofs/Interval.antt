@@ -6,14 +6,15 @@ use lib.IntN.{ℤ, pos, _*ℤ_}
 use lib.Signed.{_≤ℤ_}
 use Rattle.folder.specs.Pick.{pick}
 use Rattle.expressions.specs.Entries.{Entries}
-use Rattle.expressions.specs.Order.{minZ, maxZ, arithZ}
+use Rattle.whole.specs.Order.{minZ, maxZ}
+use Rattle.expressions.specs.Operations.{arithZ}
 use Rattle.expressions.specs.Meaning.{State, valueOf, meaning, numberIn}
 use Rattle.expressions.specs.Ranges.{span, least, greatest, product, arithR, hull, ranging, rangeOf}
 use Rattle.expressions.specs.Right.{Inside}
 use Rattle.expressions.specs.declared.Arith.{Arith}
 use Rattle.expressions.specs.declared.Arith.the-variants.{Add, Subtract, Multiply, Smaller, Larger}
 use Rattle.expressions.specs.declared.Range.{Range}
-use Rattle.expressions.proofs.Order.{_⊑_, to-⊑, from-⊑, ⊑-refl, ⊑-trans, add-mono, sub-mono, min-le-l, min-le-r, le-max-l, le-max-r, min-mono, max-mono, mul-above, mul-below, mul-above-r, mul-below-r}
+use Rattle.whole.proofs.Order.{_⊑_, to-⊑, from-⊑, ⊑-refl, ⊑-trans, add-mono, sub-mono, min-le-l, min-le-r, le-max-l, le-max-r, min-mono, max-mono, mul-above, mul-below, mul-above-r, mul-below-r}
 use Rattle.expressions.proofs.Related.{Any, any, Related, number-related}
 
 -- z lies in r.

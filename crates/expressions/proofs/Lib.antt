@@ -1,5 +1,4 @@
 pub mod Decided
-pub mod Order
 pub mod Parts
 pub mod Related
 pub mod Sound

@@ -17,7 +17,7 @@ use Rattle.expressions.specs.declared.Number.the-variants.{Known, Unknow
 use Rattle.expressions.specs.declared.Truth.{Truth}
 use Rattle.expressions.specs.declared.Truth.the-variants.{True, False, Unknown}
 use Rattle.expressions.specs.declared.Range.{Range}
-use Rattle.expressions.proofs.Order.{to-⊑, within}
+use Rattle.whole.proofs.Order.{to-⊑, within}
 use Rattle.expressions.proofs.Related.{Any, any, Related, number-step}
 use Rattle.expressions.proofs.Interval.{In, in-inside, in-arith, in-hull, in-one}
 use Rattle.expressions.proofs.Levels.{Lower}

@@ -6,7 +6,7 @@ use mathlib.Core.Bool.{Bool, true, false, not, _&&_, _||_}
 use lib.IntN.{ℤ}
 use Rattle.folder.specs.Pick.{pick}
 use Rattle.expressions.specs.Entries.{Entries}
-use Rattle.expressions.specs.Order.{arithZ, relates}
+use Rattle.expressions.specs.Operations.{arithZ, relates}
 use Rattle.expressions.specs.Meaning.{State, valueOf, joins, meaning, numberIn, truthIn}
 use Rattle.expressions.specs.Reading.{knownTruth, arithN, chooseN, compareN, notT, andT, orT, joinT, reading, readNumber, readTruth}
 use Rattle.expressions.specs.declared.Arith.{Arith}

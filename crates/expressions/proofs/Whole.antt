@@ -9,7 +9,7 @@ use lib.IntN.{ℤ}
 use Rattle.folder.specs.Pick.{pick}
 use Rattle.expressions.specs.Entries.{Entries, numberForm, truthForm}
 use Rattle.expressions.specs.Levels.{numberStep, truthStep, numberAt, truthAt}
-use Rattle.expressions.specs.Order.{arithZ, relates}
+use Rattle.expressions.specs.Operations.{arithZ, relates}
 use Rattle.expressions.specs.Meaning.{joins}
 use Rattle.expressions.specs.Reading.{knownTruth, chosen, notT, joinT, reading, readNumber, readTruth}
 use Rattle.expressions.specs.Right.{IsNumber, IsTruth, NumberPart, TruthPart, NumberRight, TruthRight, EntryRight}

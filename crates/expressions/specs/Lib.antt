@@ -1,6 +1,6 @@
 pub mod Entries
 pub mod Levels
-pub mod Order
+pub mod Operations
 pub mod Meaning
 pub mod Reading
 pub mod Ranges

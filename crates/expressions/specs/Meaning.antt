@@ -8,7 +8,7 @@ use lib.IntN.{ℤ, pos}
 use Rattle.folder.specs.Pick.{pick}
 use Rattle.expressions.specs.Entries.{Entries}
 use Rattle.expressions.specs.Levels.{Interpretation, number, truth}
-use Rattle.expressions.specs.Order.{arithZ, relates}
+use Rattle.expressions.specs.Operations.{arithZ, relates}
 use Rattle.expressions.specs.declared.Join.{Join}
 use Rattle.expressions.specs.declared.Join.the-variants.{And, Or}
 

@@ -6,7 +6,7 @@ use lib.IntN.{ℤ, pos, negsuc, _+ℤ_, _-ℤ_, _*ℤ_}
 use lib.Signed.{leZ}
 use Rattle.expressions.specs.Entries.{Entries}
 use Rattle.expressions.specs.Levels.{Interpretation, number}
-use Rattle.expressions.specs.Order.{minZ, maxZ}
+use Rattle.whole.specs.Order.{minZ, maxZ}
 use Rattle.expressions.specs.declared.Arith.{Arith}
 use Rattle.expressions.specs.declared.Arith.the-variants.{Add, Subtract, Multiply, Smaller, Larger}
 use Rattle.expressions.specs.declared.Range.{Range}

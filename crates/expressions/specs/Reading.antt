@@ -1,12 +1,16 @@
 -- Document 01, "Labels and the three-way reading".
 -- Assumes nothing.
-use Prim.Native.Nat.{ℕ}
+use Prim.Native.Nat.{ℕ, _/_, _%_, _^_}
 use mathlib.Core.Bool.{Bool, true, false}
-use lib.IntN.{ℤ}
+use mathlib.Core.List.{List}
+use lib.ListN.{getD}
+use lib.Dec.{eqb}
+use lib.IntN.{ℤ, pos}
 use Rattle.folder.specs.Pick.{pick}
 use Rattle.expressions.specs.Entries.{Entries}
 use Rattle.expressions.specs.Levels.{Interpretation, number, truth}
-use Rattle.expressions.specs.Order.{arithZ, relates, eqZ}
+use Rattle.whole.specs.Order.{eqZ}
+use Rattle.expressions.specs.Operations.{arithZ, relates}
 use Rattle.expressions.specs.declared.Arith.{Arith}
 use Rattle.expressions.specs.declared.Relation.{Relation}
 use Rattle.expressions.specs.declared.Join.{Join}
@@ -68,7 +72,16 @@ abbrev pub joinT : Join → Truth → Truth → Truth
 joinT And a b = andT a b
 joinT Or a b = orT a b
 
--- `look i` is what a label says of variable i: its value where it is tracked.
+-- A set has bit i for variable i.
+unfoldable pub hasBit : ℕ → ℕ → Bool
+hasBit t i = eqb (t / 2 ^ i % 2) 1
+
+-- What a label says of variable i, where t is its set of tracked variables and v has their values: a variable is known
+-- when it is tracked.
+unfoldable pub lookIn : ℕ → List ℤ → ℕ → Number
+lookIn t v i = pick (hasBit t i) (Known (getD v i (pos 0))) Open
+
+-- `look i` is what a label says of variable i.
 abbrev pub reading : (ℕ → Number) → Interpretation Number Truth
 reading look = record {
   constant = λ z. Known z;

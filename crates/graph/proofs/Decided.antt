@@ -29,7 +29,7 @@ use Rattle.expressions.specs.declared.Number.{Number}
 use Rattle.expressions.specs.declared.Number.the-variants.{Known, Unknown as Open}
 use Rattle.expressions.specs.declared.Truth.{Truth}
 use Rattle.expressions.specs.declared.Truth.the-variants.{True, False, Unknown}
-use Rattle.expressions.proofs.Order.{equal-decided}
+use Rattle.whole.proofs.Order.{equal-decided}
 use Rattle.model.specs.Model.{Model, modelOf, firstRecord}
 use Rattle.model.specs.Chances.{mdp, initialState}
 use Rattle.graph.specs.Limits.{leastBytes, mostBytes, mostNodes, units, mostSteps}

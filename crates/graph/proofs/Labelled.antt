@@ -17,7 +17,7 @@ use Rattle.folder.specs.Pick.{pick}
 use Rattle.folder.specs.Tab.{tab, passing}
 use Rattle.folder.proofs.TabLaws.{length-tab, getD-tab, PassAt, passing-at, Has, passing-has}
 use Rattle.expressions.specs.Meaning.{State, valueOf, numberIn, truthIn}
-use Rattle.expressions.specs.Reading.{isTrue, knownTruth}
+use Rattle.expressions.specs.Reading.{hasBit, lookIn, isTrue, knownTruth}
 use Rattle.expressions.specs.declared.Number.{Number}
 use Rattle.expressions.specs.declared.Number.the-variants.{Known, Unknown as Open}
 use Rattle.expressions.specs.declared.Truth.{Truth}
@@ -29,7 +29,7 @@ use Rattle.model.specs.Valid.{ModelRight}
 use Rattle.model.proofs.Chances.{next-in-range}
 use Rattle.graph.specs.Limits.{units}
 use Rattle.graph.specs.Simulation.{Simulation, graph, kindOf}
-use Rattle.graph.specs.Labels.{hasBit, tracks, look, concreteState, numberOf, truthOf, Contains}
+use Rattle.graph.specs.Labels.{tracks, look, concreteState, numberOf, truthOf, Contains}
 use Rattle.graph.specs.Rules.{enabledIn}
 use Rattle.graph.specs.Valid.{GraphRight}
 use Rattle.graph.proofs.Decided.{true-decided}
@@ -91,20 +91,26 @@ module _ (M : Model) (R : ModelRight M) (G : Simulation) (A : GraphRight M G) wh
       go (no g) = absurd (false≢true (sym (no-bit (G .tracked n) (M .variables) i (A .nodes n l .bits) (omega arith)) ∙ t))
 
   -- A label says of each variable nothing, or its value in every state that it contains.
-  look-says : (n : ℕ) → n < G .nodes → (s : State) → Contains M G n s → (i : ℕ) → Says (look G n i) (valueOf s i)
-  unfolding look
+  look-says : (n : ℕ) → n < G .nodes → (s : State) → Contains M G n s → (i : ℕ) → Says (look M G n i) (valueOf s i)
+  unfolding lookIn
   look-says n l s c i = go (tracks G n i) refl
     where
-      go : (b : Bool) → tracks G n i ≡ b → Says (pick b (Known (G .label n i)) Open) (valueOf s i)
-      go true t = subst (λ (z : ℤ). Says (Known (G .label n i)) z) (sym (c .agrees i (tracked-there n l i t) t)) Says.known
+      row : List ℤ
+      row = tab (M .variables) (G .label n)
+
+      go : (b : Bool) → tracks G n i ≡ b → Says (pick b (Known (getD row i (pos 0))) Open) (valueOf s i)
+      go true t =
+          let p : i < M .variables = tracked-there n l i t in
+          let e : getD row i (pos 0) ≡ valueOf s i = getD-tab (pos 0) (M .variables) (G .label n) i p ∙ sym (c .agrees i p t) in
+          subst (λ (z : ℤ). Says (Known (getD row i (pos 0))) z) e Says.known
       go false t = Says.open-number
 
   module _ (n : ℕ) (l : n < G .nodes) (s : State) (c : Contains M G n s) where
     says-number : (e : ℕ) → Says (numberOf M G n e) (numberIn (M .entries) s e)
-    says-number = number-sound (M .entries) (look G n) s (look-says n l s c)
+    says-number = number-sound (M .entries) (look M G n) s (look-says n l s c)
 
     says-truth : (e : ℕ) → SaysT (truthOf M G n e) (truthIn (M .entries) s e)
-    says-truth = truth-sound (M .entries) (look G n) s (look-says n l s c)
+    says-truth = truth-sound (M .entries) (look M G n) s (look-says n l s c)
 
   kind-of : (n : ℕ) → n < G .nodes → (κ : Kind) → kindOf (G .kind n) ≡ κ → G .kind n ≡ numberOfKind κ
   kind-of n l = kind-is (G .kind n) (A .nodes n l .kind)

@@ -11,7 +11,7 @@ use Rattle.folder.specs.Pick.{pick, implies}
 use Rattle.folder.specs.Scan.{all}
 use Rattle.folder.specs.Tab.{tab, passing, sameList}
 use Rattle.folder.specs.Contents.{body}
-use Rattle.expressions.specs.Order.{eqZ}
+use Rattle.whole.specs.Order.{eqZ}
 use Rattle.expressions.specs.Meaning.{numberIn}
 use Rattle.expressions.specs.Reading.{isKnown, isTrue, isFalse, reads}
 use Rattle.model.specs.Model.{Model, firstRecord}

@@ -11,8 +11,8 @@ use Rattle.folder.specs.Tab.{tab, passing, sameList}
 use Rattle.folder.specs.Table.{refusal, outcome, allRules, firstBroken}
 use Rattle.expressions.specs.Entries.{numberFormOf, truthFormOf, numberForm, truthForm, isNumber, isTruth}
 use Rattle.expressions.specs.Levels.{numberAt, truthAt}
-use Rattle.expressions.specs.Order.{minZ, maxZ, eqZ}
-use Rattle.expressions.specs.Reading.{readNumber, readTruth}
+use Rattle.whole.specs.Order.{minZ, maxZ, eqZ}
+use Rattle.expressions.specs.Reading.{hasBit, lookIn, readNumber, readTruth}
 use Rattle.expressions.specs.Ranges.{rangeOf, inside}
 use Rattle.expressions.specs.Rules.{depthOf, numberFits, truthFits, entryFits, rangeFits}
 use Rattle.model.specs.Layout.{recordSize, recordCount}
@@ -22,7 +22,6 @@ use Rattle.model.specs.Chances.{next}
 use Rattle.model.specs.Step as Step
 use Rattle.model.specs.Pedal.{pedalModel}
 use Rattle.graph.specs.Simulation.{edgeSize, edgeAfter, edgesStart, edgeWhole, edgeAt, kindOf}
-use Rattle.graph.specs.Labels.{hasBit, look}
 use Rattle.graph.specs.Rules.{nodesFit, headFits, valuesFit, nodeFits, edgeFits, edgesFit, rootFits, A1, A2, B1, resultIs, labelFollows, follows, edgeFollows, B2, C3, C1, C2, valueFits}
 use Rattle.graph.specs.Table.{graphOutcome, graphAnswer}
 use Rattle.graph.specs.Figures.{figures, figureOutcome, figurePart}
@@ -36,7 +35,7 @@ use Rattle.graph.proofs.Demand.{demand-3}
 
 -- All that the calls are defined by, opened.
 unfoldable computing : ℕ
-unfolding u16 u32 signed16 dueStart entryOk body countOf field field4 firstBad tab passing sameList outcome allRules firstBroken numberFormOf truthFormOf numberForm truthForm isNumber isTruth numberAt truthAt minZ maxZ eqZ readNumber readTruth rangeOf inside depthOf numberFits truthFits entryFits rangeFits recordSize recordCount bound recordsFit variableFits termsFit commandFits recordsAddUp assignedFits branchFits weightsTotal next Step.valueFits Step.stepOutcome Step.stepRow edgeSize edgeAfter edgesStart edgeWhole edgeAt kindOf hasBit look nodesFit headFits valuesFit nodeFits edgeFits edgesFit rootFits A1 A2 B1 resultIs labelFollows follows edgeFollows B2 C3 C1 C2 valueFits graphOutcome graphAnswer round figures figureOutcome figurePart
+unfolding u16 u32 signed16 dueStart entryOk body countOf field field4 firstBad tab passing sameList outcome allRules firstBroken numberFormOf truthFormOf numberForm truthForm isNumber isTruth numberAt truthAt minZ maxZ eqZ readNumber readTruth rangeOf inside depthOf numberFits truthFits entryFits rangeFits recordSize recordCount bound recordsFit variableFits termsFit commandFits recordsAddUp assignedFits branchFits weightsTotal next Step.valueFits Step.stepOutcome Step.stepRow edgeSize edgeAfter edgesStart edgeWhole edgeAt kindOf hasBit lookIn nodesFit headFits valuesFit nodeFits edgeFits edgesFit rootFits A1 A2 B1 resultIs labelFollows follows edgeFollows B2 C3 C1 C2 valueFits graphOutcome graphAnswer round figures figureOutcome figurePart
 computing = 0
 
 pub cases-hold : map (λ (c : Case). c .told) cases ≡ map (λ (c : Case). c .due) cases

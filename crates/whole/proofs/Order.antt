@@ -11,7 +11,7 @@ use lib.IntN.{ℤ, pos, negsuc, negℤ, subℕ, _+ℤ_, _-ℤ_, _*ℤ_, +ℤ-ass
 use lib.Signed.{leZ, mag, _≤ℤ_}
 use Rattle.folder.specs.Pick.{pick}
 use Rattle.folder.proofs.Decides.{Decides, at-mostZ, and-both, both-and}
-use Rattle.expressions.specs.Order.{minZ, maxZ, eqZ}
+use Rattle.whole.specs.Order.{minZ, maxZ, eqZ}
 
 infix 4 _⊑_
 pub record _⊑_ (a b : ℤ) : Type 0 where

@@ -1,0 +1,1 @@
+// Whole numbers: the few places where signed arithmetic is done.
