@@ -1,9 +1,13 @@
--- The test of a contents entry decides its rule; and where every entry is right, each body is as long as its entry says.
+-- The test of a contents entry decides its rule; and a body as a part of the folder.
 -- Assumes nothing.
-use Prim.Native.Nat.{ℕ, _+_}
+use Prim.Native.Nat.{ℕ, _+_, _-_, _<_}
+use mathlib.Core.Path.{_≡_, sym, ap, _∙_}
 use mathlib.Core.List.{List}
-use lib.ListN.{length}
-use Rattle.folder.specs.Contents.{startOf, lengthOf, dueStart, entryOk, EntryRight}
+use native.Mathlib.Nat.{add-sub-cancel-left}
+use native.Mathlib.Omega.{arith}
+use lib.ListN.{length, take, drop, length-drop, drop-of-length-le}
+use lib.Seq.{take-all, take-nil, drop-length}
+use Rattle.folder.specs.Contents.{startOf, lengthOf, dueStart, entryOk, EntryRight, body}
 use Rattle.folder.proofs.Decides.{Decides, at-most, same, _∧also_, whenever, reworded}
 
 pub entry-decided : (s : List ℕ) (k e : ℕ) → Decides (EntryRight s k e) (entryOk s k e)
@@ -12,3 +16,18 @@ entry-decided s k e = reworded
     (λ h. record { start = h .0 .0; ends = h .0 .1; final = h .1 })
     (λ r. ((r .start, r .ends), r .final))
     ((same (startOf s e) (dueStart s k e) ∧also at-most (startOf s e + lengthOf s e) (length s)) ∧also whenever (same (e + 1) k) (same (startOf s e + lengthOf s e) (length s)))
+
+-- A body as the code reaches it, with its start a and its length l: whole, cut short by the folder's end, or past it.
+module _ (s : List ℕ) (e : ℕ) {a l : ℕ} (p : a ≡ startOf s e) (q : l ≡ lengthOf s e) where
+  body-is : take l (drop a s) ≡ body s e
+  unfolding body
+  body-is = rw (p, q)
+
+  pub body-whole : take (a + l - a) (drop a s) ≡ body s e
+  body-whole = rw (add-sub-cancel-left a l) body-is
+
+  pub body-cut : length s - a < l → take (length s - a) (drop a s) ≡ body s e
+  body-cut h = take-all (length s - a) (drop a s) (omega (arith, length-drop a s)) ∙ sym (take-all l (drop a s) (omega (arith, length-drop a s))) ∙ body-is
+
+  pub body-none : length s < a → take (length s - length s) (drop (length s) s) ≡ body s e
+  body-none h = ap (take (length s - length s)) (drop-length s) ∙ take-nil (length s - length s) ∙ sym (take-nil l) ∙ ap (take l) (sym (drop-of-length-le s {i = a} (omega arith))) ∙ body-is

@@ -3,3 +3,4 @@ pub mod ScanLaws
 pub mod TabLaws
 pub mod TableLaws
 pub mod ContentsLaws
+pub mod Signed

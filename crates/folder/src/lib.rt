@@ -1,4 +1,11 @@
-// What every check answers.
+// Folders: little-endian fields, the table of contents, bodies and records. Reads are total: past the end a byte is 0.
+ghost use mathlib.Core.Path.{_≡_};
+ghost use Prim.Native.Nat.{ℕ, _+_, _*_, _<_, _≤_, _^_};
+ghost use lib.ListN.{getD, length};
+ghost use Rattle.folder.specs.Fields.{u16, u32, signed16};
+ghost use Rattle.folder.specs.Contents.{startOf, lengthOf, dueStart, entryOk, body, countOf, field, field4};
+ghost use Rattle.folder.specs.Scan.{firstBad};
+ghost use Rattle.folder.specs.Table.{refused};
 
 // A refusal: its number in document 01's table, and the place that the table returns with it.
 pub struct Refusal {
@@ -6,7 +13,162 @@ pub struct Refusal {
     pub place: usize,
 }
 
+// What a check answers.
 pub enum Outcome {
     Accepted,
     Refused(Refusal),
+}
+
+pub fn refuse(number: usize, place: usize) -> Outcome
+    ensures { λ r. ⌜ r ≡ refused number place ⌝ }
+{
+    Outcome::Refused(Refusal { number, place })
+}
+
+pub fn byte_at(s: &[u8], k: usize) -> usize
+    ensures { λ r. ⌜ (r ≡ getD (now (s .entry)) k 0) × (r < 256) ⌝ }
+{
+    if k < s.len() { s[k] as usize } else { 0 }
+}
+
+pub fn u16_at(s: &[u8], k: usize) -> usize
+    requires { ⌜ k < 2 ^ 60 ⌝ }
+    ensures { λ r. ⌜ (r ≡ u16 (now (s .entry)) k) × (r < 65536) ⌝ }
+{
+    byte_at(s, k) + byte_at(s, k + 1) * 256
+}
+
+pub fn u32_at(s: &[u8], k: usize) -> usize
+    requires { ⌜ k < 2 ^ 59 ⌝ }
+    ensures { λ r. ⌜ (r ≡ u32 (now (s .entry)) k) × (r < 4294967296) ⌝ }
+{
+    u16_at(s, k) + u16_at(s, k + 2) * 65536
+}
+
+// The two's complement value of a 2-byte field.
+pub fn signed_of(u: usize) -> i64
+    requires { ⌜ u < 65536 ⌝ }
+    ensures { λ r. ⌜ r ≡ signed16 u ⌝ }
+{
+    if u < 32768 {
+        u as i64
+    } else {
+        (u as i64) - 65536
+    }
+}
+
+pub fn start_of(s: &[u8], e: usize) -> usize
+    requires { ⌜ e < 2 ^ 32 ⌝ }
+    ensures { λ r. ⌜ (r ≡ startOf (now (s .entry)) e) × (r < 4294967296) ⌝ }
+{
+    u32_at(s, e * 8)
+}
+
+pub fn length_of(s: &[u8], e: usize) -> usize
+    requires { ⌜ e < 2 ^ 32 ⌝ }
+    ensures { λ r. ⌜ (r ≡ lengthOf (now (s .entry)) e) × (r < 4294967296) ⌝ }
+{
+    u32_at(s, e * 8 + 4)
+}
+
+fn due_start(s: &[u8], k: usize, e: usize) -> usize
+    requires { ⌜ (k < 2 ^ 32) × (e < 2 ^ 32) ⌝ }
+    ensures { λ r. ⌜ r ≡ dueStart (now (s .entry)) k e ⌝ }
+{
+    if e == 0 {
+        k * 8
+    } else {
+        start_of(s, e - 1) + length_of(s, e - 1)
+    }
+}
+
+fn entry_ok(s: &[u8], k: usize, e: usize) -> bool
+    requires { ⌜ (k < 2 ^ 32) × (e < 2 ^ 32) ⌝ }
+    ensures { λ r. ⌜ r ≡ entryOk (now (s .entry)) k e ⌝ }
+{
+    let start = start_of(s, e);
+    let end = start + length_of(s, e);
+    let due = due_start(s, k, e);
+    ((start == due) & (end <= s.len())) & (!(e + 1 == k) | (end == s.len()))
+}
+
+// The lowest entry of a table of k entries that is off, or k.
+pub fn first_bad_entry(s: &[u8], k: usize) -> usize
+    requires { ⌜ k < 2 ^ 32 ⌝ }
+    ensures { λ r. ⌜ r ≡ firstBad (entryOk (now (s .entry)) k) k ⌝ }
+{
+    let mut i = 0;
+    while i < k {
+        if entry_ok(s, k, i) {
+            i += 1;
+        } else {
+            return i;
+        }
+    }
+    i
+}
+
+// The scan of a row with one place.
+pub fn only_place(ok: bool) -> usize
+    ensures { λ r. ⌜ r ≡ firstBad (λ _. ok) 1 ⌝ }
+{
+    if ok { 1 } else { 0 }
+}
+
+// Body e, as a part of the folder.
+pub fn body(s: &[u8], e: usize) -> &[u8]
+    requires { ⌜ e < 2 ^ 32 ⌝ }
+    ensures { λ r. ⌜ now r ≡ body (now (s .entry)) e ⌝ }
+{
+    let n = s.len();
+    let start = start_of(s, e);
+    let len = length_of(s, e);
+    if start <= n {
+        if len <= n - start {
+            let end = start + len;
+            &s[start..end]
+        } else {
+            &s[start..]
+        }
+    } else {
+        &s[n..]
+    }
+}
+
+pub fn count_of(size: usize, b: &[u8]) -> usize
+    requires { ⌜ 0 < size ⌝ }
+    ensures { λ r. ⌜ r ≡ countOf size (now (b .entry)) ⌝ }
+{
+    b.len() / size
+}
+
+// Where the 2-byte field f of record i starts.
+fn position(size: usize, i: usize, f: usize) -> usize
+    requires { ⌜ (size ≤ 65536) × (i ≤ 65536) × (f ≤ 65536) ⌝ }
+    ensures { λ r. ⌜ (r ≡ size * i + 2 * f) × (r < 2 ^ 59) ⌝ }
+{
+    size * i + 2 * f
+}
+
+// The 2-byte field f of record i of a body of records of `size` bytes.
+pub fn field(size: usize, b: &[u8], i: usize, f: usize) -> usize
+    requires { ⌜ (size ≤ 65536) × (i ≤ 65536) × (f ≤ 65536) ⌝ }
+    ensures { λ r. ⌜ (r ≡ field size (now (b .entry)) i f) × (r < 65536) ⌝ }
+{
+    u16_at(b, position(size, i, f))
+}
+
+// The 4-byte field that starts where the 2-byte field f does.
+pub fn field4(size: usize, b: &[u8], i: usize, f: usize) -> usize
+    requires { ⌜ (size ≤ 65536) × (i ≤ 65536) × (f ≤ 65536) ⌝ }
+    ensures { λ r. ⌜ (r ≡ field4 size (now (b .entry)) i f) × (r < 4294967296) ⌝ }
+{
+    u32_at(b, position(size, i, f))
+}
+
+pub fn signed_field(size: usize, b: &[u8], i: usize, f: usize) -> i64
+    requires { ⌜ (size ≤ 65536) × (i ≤ 65536) × (f ≤ 65536) ⌝ }
+    ensures { λ r. ⌜ r ≡ signed16 (field size (now (b .entry)) i f) ⌝ }
+{
+    signed_of(field(size, b, i, f))
 }
