@@ -16,12 +16,7 @@ use Rattle.expressions.specs.declared.TruthForm.the-variants.{Compare, N
 use Rattle.expressions.proofs.Decided.{number-decided, truth-decided}
 use Rattle.expressions.proofs.Forms.{no-number, no-truth, number-right, truth-right}
 use Rattle.expressions.proofs.Related.{Related, number-step, truth-step}
-pub use Rattle.expressions.proofs.Parts.{EachN, EachT}
-
--- Parts are lower.
-pub record Lower (x : Entries) : Type 0 where
-  pub number : (e : ℕ) → EachN (λ p. p < e) (λ p. p < e) (numberForm x e)
-  pub truth : (e : ℕ) → EachT (λ p. p < e) (λ p. p < e) (truthForm x e)
+use Rattle.expressions.specs.Parts.{EachN, EachT, Lower}
 
 module _ (x : Entries) (variables : ℕ) where
   number-lower : (e : ℕ) (f : NumberForm) → NumberRight x variables e f → EachN (λ p. p < e) (λ p. p < e) f

@@ -1,26 +1,11 @@
--- What holds of each part of an entry's form.
+-- What holds of every entry holds of each part.
 -- Assumes nothing.
 use Prim.Native.Nat.{ℕ}
+use Rattle.expressions.specs.Parts.{EachN, EachT}
 use Rattle.expressions.specs.declared.NumberForm.{NumberForm}
 use Rattle.expressions.specs.declared.NumberForm.the-variants.{Constant, Variable, Binary, If, NoNumber}
 use Rattle.expressions.specs.declared.TruthForm.{TruthForm}
 use Rattle.expressions.specs.declared.TruthForm.the-variants.{Compare, Not, Joined, Always, NoTruth}
-
-module _ (A B : ℕ → Type 0) where
-  -- A holds of each part that is a number, B of each that is a truth.
-  abbrev pub EachN : NumberForm → Type 0
-  EachN (Constant z) = Unit {0}
-  EachN (Variable i) = Unit {0}
-  EachN (Binary k p q) = A p × A q
-  EachN (If c p q) = B c × A p × A q
-  EachN NoNumber = Unit {0}
-
-  abbrev pub EachT : TruthForm → Type 0
-  EachT (Compare k p q) = A p × A q
-  EachT (Not p) = B p
-  EachT (Joined k p q) = B p × B q
-  EachT Always = Unit {0}
-  EachT NoTruth = Unit {0}
 
 module _ {A B : ℕ → Type 0} (a : (p : ℕ) → A p) (b : (p : ℕ) → B p) where
   pub all-number : (f : NumberForm) → EachN A B f

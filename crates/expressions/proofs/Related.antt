@@ -11,7 +11,8 @@ use Rattle.expressions.specs.declared.NumberForm.{NumberForm}
 use Rattle.expressions.specs.declared.NumberForm.the-variants.{Constant, Variable, Binary, If, NoNumber}
 use Rattle.expressions.specs.declared.TruthForm.{TruthForm}
 use Rattle.expressions.specs.declared.TruthForm.the-variants.{Compare, Not, Joined, Always, NoTruth}
-use Rattle.expressions.proofs.Parts.{EachN, EachT, all-number, all-truth}
+use Rattle.expressions.specs.Parts.{EachN, EachT}
+use Rattle.expressions.proofs.Parts.{all-number, all-truth}
 
 -- Any two are related: for what a proof leaves out of account.
 pub data Any {T T′ : Type 0} : T → T′ → Type 0 where

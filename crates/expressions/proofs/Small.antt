@@ -20,7 +20,7 @@ use Rattle.expressions.specs.declared.Range.{Range}
 use Rattle.whole.proofs.Order.{to-⊑, within}
 use Rattle.expressions.proofs.Related.{Any, any, Related, number-step}
 use Rattle.expressions.proofs.Interval.{In, in-inside, in-arith, in-hull, in-one}
-use Rattle.expressions.proofs.Levels.{Lower}
+use Rattle.expressions.specs.Parts.{Lower}
 
 pub data InN : Range → Number → Type 0 where
   known-in : {r : Range} {z : ℤ} → In r z → InN r (Known z)

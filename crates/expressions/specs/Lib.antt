@@ -1,4 +1,5 @@
 pub mod Entries
+pub mod Parts
 pub mod Levels
 pub mod Operations
 pub mod Meaning

@@ -2,10 +2,14 @@
 -- Assumes nothing.
 use Prim.Native.Nat.{ℕ}
 use mathlib.Core.Bool.{Bool, _&&_}
+use mathlib.Core.List.{List}
+use lib.Dec.{ltb}
 use lib.IntN.{ℤ, pos, negsuc, _+ℤ_, _-ℤ_, _*ℤ_}
 use lib.Signed.{leZ}
 use Rattle.expressions.specs.Entries.{Entries}
 use Rattle.expressions.specs.Levels.{Interpretation, number}
+use Rattle.folder.specs.Pick.{pick}
+use Rattle.folder.specs.Contents.{countOf, signedField}
 use Rattle.whole.specs.Order.{minZ, maxZ}
 use Rattle.expressions.specs.declared.Arith.{Arith}
 use Rattle.expressions.specs.declared.Arith.the-variants.{Add, Subtract, Multiply, Smaller, Larger}
@@ -36,6 +40,10 @@ arithR Larger a b = span (maxZ (a .low) (b .low)) (maxZ (a .high) (b .high))
 -- If: least low, greatest high.
 abbrev pub hull : Range → Range → Range
 hull a b = span (minZ (a .low) (b .low)) (maxZ (a .high) (b .high))
+
+-- The range of variable v of a variable body, whose records are low, high and initial; past the last, 0 to 0.
+unfoldable pub boundIn : List ℕ → ℕ → Range
+boundIn y v = pick (ltb v (countOf 6 y)) (span (signedField 6 y v 0) (signedField 6 y v 1)) (span (pos 0) (pos 0))
 
 -- `bound i` is the range of variable i. A truth has no range.
 abbrev pub ranging : (ℕ → Range) → Interpretation Range (Unit {0})
