@@ -288,3 +288,8 @@ figure-valid m g h first second = accepted-asks (put-so
     (tables-ask (modelRows m) (model-asks m) (tables-ask (graphRows (modelOf m) g) (rows-ask (modelOf m) g) (figure-asks (simulationOf (modelOf m) g) h first second)))
     (λ a. (record { model = a .0; folder = a .1 .0 .0; graph = a .1 .0 .1 }, a .1 .1))
     (λ v. (v .0 .model, ((v .0 .folder, v .0 .graph), v .1))))
+
+pub figure-refused : (m g : List ℕ) (h : ℕ) (first second : List ℕ) (f : Refusal) → figureOutcome m g h first second ≡ Refused f
+    → Broken (modelRows m ++ graphRows (modelOf m) g ++ figureRows (simulationOf (modelOf m) g) h first second) f
+unfolding figureOutcome
+figure-refused m g h first second f e = refused-broken (modelRows m ++ graphRows (modelOf m) g ++ figureRows (simulationOf (modelOf m) g) h first second) f e
