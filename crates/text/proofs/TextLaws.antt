@@ -12,7 +12,7 @@ use lib.Dec.{ltb}
 use lib.ListN.{length, take, drop, set, getD, length-append, length-take, length-drop, take-append-drop}
 use lib.Seq.{paste, paste-zero, paste-suc, length-paste, take-length, set-at, drop-cons, append-snoc, length-take-le, take-at, drop-at, drop-drop}
 use Rattle.folder.specs.Pick.{pick}
-use Rattle.text.specs.Text.{decimalWithin, written}
+use Rattle.text.specs.Text.{decimalWithin, written, Holds}
 
 -- ---- a word copied byte by byte: i of its bytes stand
 pub record Copied (out₀ : List ℕ) (at : ℕ) (word out : List ℕ) (i : ℕ) : Type 0 where
@@ -78,12 +78,7 @@ written-more out at s d h =
 pub length-written : (out : List ℕ) (at : ℕ) (s : List ℕ) → at + length s ≤ length out → length (written out at s) ≡ length out
 length-written out at s h = simp (length-append, length-take, length-drop) (omega arith)
 
--- ---- text after text: `out` holds the text p, and then what `out₀` held
-pub record Holds (out₀ p out : List ℕ) (at : ℕ) : Type 0 where
-  pub same : out ≡ p ++ drop (length p) out₀
-  pub ends : at ≡ length p
-  pub long : length out ≡ length out₀
-
+-- ---- text after text
 pub holds-none : (out : List ℕ) → Holds out [] out 0
 holds-none out = record { same = refl; ends = refl; long = refl }
 
@@ -122,3 +117,26 @@ module _ (out : List ℕ) (at n left : ℕ) where
       omega (arith, length-append (decimalWithin (left - 1) (n / 10)) ((48 + n % 10) ∷ [])),
       rw (w, e) (written-more out at (decimalWithin (left - 1) (n / 10)) (48 + n % 10) (omega (arith, digits-few (left - 1) (n / 10)))),
     )
+
+-- Two texts, one after the other, are written as one.
+pub written-then : (out : List ℕ) (at : ℕ) (a b : List ℕ) → at + length a ≤ length out → written (written out at a) (at + length a) b ≡ written out at (a ++ b)
+written-then out at a b h =
+    let p : List ℕ = take at out ++ a in
+    let rest : List ℕ = drop (at + length a) out in
+    let e : length p ≡ at + length a = length-append (take at out) a ∙ ap (λ (k : ℕ). k + length a) (length-take-le at out (omega arith)) in
+    let q : drop (at + length a + length b) (p ++ rest) ≡ drop (at + length (a ++ b)) out =
+    sym (drop-drop (length b) (at + length a) (p ++ rest)) ∙ ap (drop (length b)) (drop-at p rest (at + length a) e) ∙ drop-drop (length b) (at + length a) out
+    ∙ ap (λ (k : ℕ). drop k out) (sym-of at (length a) (length b) (length-append a b)) in
+    (λ i. take-at p rest (at + length a) e i ++ b ++ q i) ∙ ap (λ (t : List ℕ). t ++ drop (at + length (a ++ b)) out) (append-assoc (take at out) a b)
+  where
+    sym-of : (x y z : ℕ) {w : ℕ} → w ≡ y + z → x + y + z ≡ x + w
+    sym-of x y z e = omega arith
+
+-- A text a and then a text b, as two calls write them.
+pub put-both : (out : List ℕ) (at most : ℕ) (a b : List ℕ) {k r : ℕ} {out₁ out₂ : List ℕ} → at + most ≤ length out → k ≡ at + length a → out₁ ≡ written out at a → k ≤ at + most
+    → r ≡ k + length b → out₂ ≡ written out₁ k b → (r ≡ at + length (a ++ b)) × (out₂ ≡ written out at (a ++ b)) × (r ≤ at + length b + most)
+put-both out at most a b room e1 w1 l e2 w2 = (
+  omega (arith, length-append a b),
+  w2 ∙ (λ i. written (w1 i) (e1 i) b) ∙ written-then out at a b (omega arith),
+  omega arith,
+)

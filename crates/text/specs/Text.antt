@@ -3,6 +3,7 @@
 use Prim.Native.Nat.{ℕ, zero, suc, _+_, _/_, _%_}
 use Prim.Native.Char.{code}
 use Prim.Native.String.{String, [] as empty, _∷_ as _first_}
+use mathlib.Core.Path.{_≡_}
 use mathlib.Core.List.{List, [], _∷_, _++_}
 use lib.Dec.{ltb}
 use lib.ListN.{length, take, drop}
@@ -24,3 +25,9 @@ decimal n = decimalWithin 20 n
 -- `out` with s in place of its bytes from `at` on.
 abbrev pub written : List ℕ → ℕ → List ℕ → List ℕ
 written out at s = take at out ++ s ++ drop (at + length s) out
+
+-- `out` begins with the text p, which ends at `at`, and then has what `out₀` has there.
+pub record Holds (out₀ p out : List ℕ) (at : ℕ) : Type 0 where
+  pub same : out ≡ p ++ drop (length p) out₀
+  pub ends : at ≡ length p
+  pub long : length out ≡ length out₀

@@ -2,6 +2,7 @@
 ghost use mathlib.Core.Path.{_≡_};
 ghost use Prim.Native.Nat.{ℕ, _+_, _≤_};
 ghost use lib.ListN.{length};
+ghost use mathlib.Core.List.{_++_};
 ghost use Rattle.text.specs.Text.{written, decimal, decimalWithin};
 
 // The word, at `at`; the position after it.
@@ -37,7 +38,16 @@ fn put_digits(out: &mut [u8], at: usize, n: usize, left: usize) -> usize
 // The number n in decimal, at `at`; the position after it.
 pub fn put_decimal(out: &mut [u8], at: usize, n: usize) -> usize
     requires { ⌜ at + 20 ≤ length (now out) ⌝ }
-    ensures { λ r. ⌜ (r ≡ at + length (decimal n)) × (now (out .exit) ≡ written (now (out .entry)) at (decimal n)) ⌝ }
+    ensures { λ r. ⌜ (r ≡ at + length (decimal n)) × (now (out .exit) ≡ written (now (out .entry)) at (decimal n)) × (r ≤ at + 20) ⌝ }
 {
     put_digits(out, at, n, 20)
+}
+
+// The number n in decimal and then the word, at `at`; the position after them.
+pub fn put_count(out: &mut [u8], at: usize, n: usize, word: &[u8]) -> usize
+    requires { ⌜ (at + length (now word) + 20 ≤ length (now out)) × (at ≤ 65536) × (length (now word) ≤ 65536) ⌝ }
+    ensures { λ r. ⌜ (r ≡ at + length (decimal n ++ now (word .entry))) × (now (out .exit) ≡ written (now (out .entry)) at (decimal n ++ now (word .entry))) × (r ≤ at + length (now (word .entry)) + 20) ⌝ }
+{
+    let k = put_decimal(out, at, n);
+    put(out, k, word)
 }
