@@ -20,20 +20,20 @@ use Rattle.graph.specs.declared.GraphAnswer.the-variants.{Accepted, Refused}
 -- The counts.
 abbrev pub countsLine : Summary → List ℕ
 countsLine s =
-    ascii "accepted " ++ decimal (s .expanded + s .covered + s .target + s .waiting)
-    ++ ascii " nodes " ++ decimal (s .expanded)
-    ++ ascii " expanded " ++ decimal (s .covered)
-    ++ ascii " covered " ++ decimal (s .target)
-    ++ ascii " target " ++ decimal (s .waiting)
-    ++ ascii " waiting\n"
+    ascii "accepted "
+    ++ (decimal (s .expanded + s .covered + s .target + s .waiting) ++ ascii " nodes ")
+    ++ (decimal (s .expanded) ++ ascii " expanded ")
+    ++ (decimal (s .covered) ++ ascii " covered ")
+    ++ (decimal (s .target) ++ ascii " target ")
+    ++ (decimal (s .waiting) ++ ascii " waiting\n")
 
 -- The root value.
-abbrev pub rootLine : Summary → List ℕ
-rootLine s = ascii "root " ++ decimal (s .root) ++ ascii "\n"
+abbrev pub rootLine : ℕ → List ℕ
+rootLine root = ascii "root " ++ (decimal root ++ ascii "\n")
 
 -- The root's figure for h steps.
 abbrev pub withinLine : ℕ → ℕ → List ℕ
-withinLine h f = ascii "within " ++ decimal h ++ ascii " " ++ decimal f ++ ascii "\n"
+withinLine h f = ascii "within " ++ (decimal h ++ ascii " ") ++ (decimal f ++ ascii "\n")
 
 -- A refusal is one line, number and place.
 abbrev pub refusedLine : Refusal → List ℕ
@@ -42,7 +42,7 @@ refusedLine f = ascii "refused " ++ decimal (f .number) ++ ascii " " ++ decimal 
 -- What is printed of an answer, `root h` being the root's figure for h steps: the figures only if no node is waiting.
 abbrev pub textOf : GraphAnswer → (ℕ → ℕ) → List ℕ
 textOf (Accepted s) root =
-    countsLine s ++ rootLine s
+    countsLine s ++ rootLine (s .root)
     ++ pick (eqb (s .waiting) 0) (withinLine 0 (root 0) ++ withinLine 1 (root 1) ++ withinLine 2 (root 2) ++ withinLine 3 (root 3)) []
 textOf (Refused f) root = refusedLine f
 
