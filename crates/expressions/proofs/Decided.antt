@@ -1,6 +1,8 @@
 -- The tests of rows 5 and 6 decide their rules.
 -- Assumes nothing.
 use Prim.Native.Nat.{ℕ}
+use mathlib.Core.Bool.{_||_}
+use mathlib.Core.Logic.{_⊎_}
 use Rattle.folder.proofs.Decides.{Decides, at-most, at-mostZ, below, same, _∧also_, _∨else_, never, reworded}
 use Rattle.expressions.specs.Entries.{Entries, numberForm, truthForm, isNumber, isTruth}
 use Rattle.expressions.specs.Ranges.{rangeOf, inside, limits}
@@ -56,12 +58,18 @@ module _ (x : Entries) where
     truth-form Always = same (x .first e) 0 ∧also unused-second e
     truth-form NoTruth = never
 
+    -- The form that the entry has.
+    abbrev pub FormRight : Type 0
+    FormRight = NumberRight x variables e (numberForm x e) ⊎ TruthRight x variables e (truthForm x e)
+
+    pub form-decided : Decides FormRight (numberFits x variables e (numberForm x e) || truthFits x variables e (truthForm x e))
+    form-decided = number-form (numberForm x e) ∨else truth-form (truthForm x e)
+
     -- Row 5.
     pub entry-decided : Decides (EntryRight x variables e) (entryFits x variables e)
     unfolding entryFits
     entry-decided =
-        reworded (λ h. record { form = h .0; depth = h .1 }) (λ r. (r .form, r .depth))
-        ((number-form (numberForm x e) ∨else truth-form (truthForm x e)) ∧also at-most (depthOf x e) deepest)
+        reworded (λ h. record { form = h .0; depth = h .1 }) (λ r. (r .form, r .depth)) (form-decided ∧also at-most (depthOf x e) deepest)
 
   -- Row 6.
   pub range-decided : (bound : ℕ → Range) (e : ℕ) → Decides (RangeRight x bound e) (rangeFits x bound e)

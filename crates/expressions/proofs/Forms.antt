@@ -10,10 +10,10 @@ use lib.Dec.{ltb, leb}
 use Rattle.folder.specs.Pick.{pick}
 use Rattle.folder.proofs.Decides.{at-most, _∧also_, unless}
 use Rattle.expressions.specs.Entries.{Entries, numberFormOf, truthFormOf, numberForm, truthForm, isNumber, isTruth}
-use Rattle.expressions.specs.Right.{IsNumber, IsTruth, NumberRight, TruthRight, EntryRight}
+use Rattle.expressions.specs.Right.{IsNumber, IsTruth, NumberRight, TruthRight}
 use Rattle.expressions.specs.declared.NumberForm.the-variants.{NoNumber}
 use Rattle.expressions.specs.declared.TruthForm.the-variants.{NoTruth}
-use Rattle.expressions.proofs.Decided.{number-decided, truth-decided}
+use Rattle.expressions.proofs.Decided.{FormRight, number-decided, truth-decided}
 
 -- An operation that gives no number, and one that gives no truth.
 number-none : (o a b c : ℕ) → leb o 7 ≡ false → numberFormOf o a b c ≡ NoNumber
@@ -64,9 +64,15 @@ module _ (x : Entries) (e : ℕ) where
       go true l = truth-none (x .operation e) (x .first e) (x .second e) l
       go false l = refl
 
-  module _ (variables : ℕ) (right : EntryRight x variables e) where
+  pub number-only : IsNumber x e → truthForm x e ≡ NoTruth
+  number-only n = no-truth (not-true _ (unless (truth-decided x e) .no (λ t. omega arith)))
+
+  pub truth-only : IsTruth x e → numberForm x e ≡ NoNumber
+  truth-only t = no-number (not-true _ (unless (number-decided x e) .no (λ n. omega arith)))
+
+  module _ (variables : ℕ) (form : FormRight x variables e) where
     pub number-right : IsNumber x e → NumberRight x variables e (numberForm x e)
-    number-right n = elim (right .form) [ inl h ↦ h | inr h ↦ absurd (rw (no-truth (not-true _ (unless (truth-decided x e) .no (λ t. omega arith)))) at h) ]
+    number-right n = elim form [ inl h ↦ h | inr h ↦ absurd (rw (number-only n) at h) ]
 
     pub truth-right : IsTruth x e → TruthRight x variables e (truthForm x e)
-    truth-right t = elim (right .form) [ inl h ↦ absurd (rw (no-number (not-true _ (unless (number-decided x e) .no (λ n. omega arith)))) at h) | inr h ↦ h ]
+    truth-right t = elim form [ inl h ↦ absurd (rw (truth-only t) at h) | inr h ↦ h ]

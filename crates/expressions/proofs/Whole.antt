@@ -81,12 +81,12 @@ module _ (x : Entries) (variables : ℕ) (right : (e : ℕ) → e < x .count →
     number-at : (n e : ℕ) → e < n → IsNumber x e → KnownN (numberAt (reading look) x n e)
     number-at zero e l s = absurd (not-suc-le-zero l)
     number-at (suc n) e l s =
-        number-known e _ _ (λ p h. number-at n p (omega arith) (h .1)) (λ p h. truth-at n p (omega arith) (h .1)) (numberForm x e) (number-right x e variables (right e (s .there)) s)
+        number-known e _ _ (λ p h. number-at n p (omega arith) (h .1)) (λ p h. truth-at n p (omega arith) (h .1)) (numberForm x e) (number-right x e variables (right e (s .there) .form) s)
 
     truth-at : (n e : ℕ) → e < n → IsTruth x e → KnownT (truthAt (reading look) x n e)
     truth-at zero e l s = absurd (not-suc-le-zero l)
     truth-at (suc n) e l s =
-        truth-known e _ _ (λ p h. number-at n p (omega arith) (h .1)) (λ p h. truth-at n p (omega arith) (h .1)) (truthForm x e) (truth-right x e variables (right e (s .there)) s)
+        truth-known e _ _ (λ p h. number-at n p (omega arith) (h .1)) (λ p h. truth-at n p (omega arith) (h .1)) (truthForm x e) (truth-right x e variables (right e (s .there) .form) s)
 
   pub whole-number : (e : ℕ) → IsNumber x e → (z : ℤ) × (readNumber x look e ≡ Known z)
   unfolding readNumber

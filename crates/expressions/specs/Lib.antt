@@ -1,5 +1,6 @@
 pub mod Entries
 pub mod Parts
+pub mod Small
 pub mod Levels
 pub mod Operations
 pub mod Meaning

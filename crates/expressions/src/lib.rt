@@ -1,4 +1,8 @@
 // Expressions: what an entry is, and what can be said of it.
+ghost use mathlib.Core.Path.{_≡_};
+ghost use Prim.Native.Nat.{_<_, _≤_};
+ghost use Rattle.expressions.specs.Entries.{entriesOf, numberFormOf, truthFormOf, numberForm, truthForm, isNumber, isTruth};
+ghost use Rattle.expressions.specs.Small.{SmallN, SmallT};
 
 pub enum Arith {
     Add,
@@ -52,4 +56,86 @@ pub enum Truth {
 pub struct Range {
     pub low: i64,
     pub high: i64,
+}
+
+// The forms of an entry, by its operation and fields.
+pub fn number_form_of(op: usize, a: usize, b: usize, c: usize) -> NumberForm
+    requires { ⌜ (a < 65536) × (b < 65536) × (c < 65536) ⌝ }
+    ensures { λ r. ⌜ (r ≡ numberFormOf op a b c) × SmallN r ⌝ }
+{
+    match op {
+        0 => NumberForm::Constant(folder::signed_of(a)),
+        1 => NumberForm::Variable(a),
+        2 => NumberForm::Binary(Arith::Add, a, b),
+        3 => NumberForm::Binary(Arith::Subtract, a, b),
+        4 => NumberForm::Binary(Arith::Multiply, a, b),
+        5 => NumberForm::Binary(Arith::Smaller, a, b),
+        6 => NumberForm::Binary(Arith::Larger, a, b),
+        7 => NumberForm::If(a, b, c),
+        _ => NumberForm::NoNumber,
+    }
+}
+
+pub fn truth_form_of(op: usize, a: usize, b: usize) -> TruthForm
+    requires { ⌜ (a < 65536) × (b < 65536) ⌝ }
+    ensures { λ r. ⌜ (r ≡ truthFormOf op a b) × SmallT r ⌝ }
+{
+    match op {
+        8 => TruthForm::Compare(Relation::Equal, a, b),
+        9 => TruthForm::Compare(Relation::Less, a, b),
+        10 => TruthForm::Compare(Relation::AtMost, a, b),
+        11 => TruthForm::Not(a),
+        12 => TruthForm::Joined(Join::And, a, b),
+        13 => TruthForm::Joined(Join::Or, a, b),
+        14 => TruthForm::Always,
+        _ => TruthForm::NoTruth,
+    }
+}
+
+// Entry e of an expression body, as a number and as a truth.
+pub fn number_form(x: &[u8], e: usize) -> NumberForm
+    requires { ⌜ e ≤ 65536 ⌝ }
+    ensures { λ r. ⌜ (r ≡ numberForm (entriesOf (now (x .entry))) e) × SmallN r ⌝ }
+{
+    if e < folder::count_of(8, x) {
+        number_form_of(
+            folder::field(8, x, e, 0),
+            folder::field(8, x, e, 1),
+            folder::field(8, x, e, 2),
+            folder::field(8, x, e, 3),
+        )
+    } else {
+        NumberForm::NoNumber
+    }
+}
+
+pub fn truth_form(x: &[u8], e: usize) -> TruthForm
+    requires { ⌜ e ≤ 65536 ⌝ }
+    ensures { λ r. ⌜ (r ≡ truthForm (entriesOf (now (x .entry))) e) × SmallT r ⌝ }
+{
+    if e < folder::count_of(8, x) {
+        truth_form_of(
+            folder::field(8, x, e, 0),
+            folder::field(8, x, e, 1),
+            folder::field(8, x, e, 2),
+        )
+    } else {
+        TruthForm::NoTruth
+    }
+}
+
+// Its sort.
+pub fn is_number(x: &[u8], e: usize) -> bool
+    requires { ⌜ e ≤ 65536 ⌝ }
+    ensures { λ r. ⌜ r ≡ isNumber (entriesOf (now (x .entry))) e ⌝ }
+{
+    (e < folder::count_of(8, x)) & (folder::field(8, x, e, 0) <= 7)
+}
+
+pub fn is_truth(x: &[u8], e: usize) -> bool
+    requires { ⌜ e ≤ 65536 ⌝ }
+    ensures { λ r. ⌜ r ≡ isTruth (entriesOf (now (x .entry))) e ⌝ }
+{
+    let op = folder::field(8, x, e, 0);
+    (e < folder::count_of(8, x)) & ((8 <= op) & (op <= 14))
 }

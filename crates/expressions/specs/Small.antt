@@ -1,0 +1,22 @@
+-- The entry numbers and the variable's index in a form are those of 2-byte fields: what a list of bytes as numbers does
+-- not say of them.
+-- Assumes nothing.
+use Prim.Native.Nat.{_<_}
+use Rattle.expressions.specs.declared.NumberForm.{NumberForm}
+use Rattle.expressions.specs.declared.NumberForm.the-variants.{Constant, Variable, Binary, If, NoNumber}
+use Rattle.expressions.specs.declared.TruthForm.{TruthForm}
+use Rattle.expressions.specs.declared.TruthForm.the-variants.{Compare, Not, Joined, Always, NoTruth}
+
+abbrev pub SmallN : NumberForm → Type 0
+SmallN (Constant z) = Unit {0}
+SmallN (Variable i) = i < 65536
+SmallN (Binary k p q) = (p < 65536) × (q < 65536)
+SmallN (If c p q) = (c < 65536) × (p < 65536) × (q < 65536)
+SmallN NoNumber = Unit {0}
+
+abbrev pub SmallT : TruthForm → Type 0
+SmallT (Compare k p q) = (p < 65536) × (q < 65536)
+SmallT (Not p) = p < 65536
+SmallT (Joined k p q) = (p < 65536) × (q < 65536)
+SmallT Always = Unit {0}
+SmallT NoTruth = Unit {0}

@@ -1,0 +1,48 @@
+-- Sums, differences and products of numbers within a million of 0 fit 64 bits.
+-- Assumes nothing.
+use mathlib.Core.Bool.{Bool, true, false, cond}
+use Prim.Native.Nat.{ℕ, zero, suc, _+_, _-_, _*_, _≤_, zero-le}
+use native.Mathlib.Nat.{le-refl, le-trans, le-suc, mul-le-mul, lt-of-le-of-lt}
+use native.Mathlib.Omega.{arith}
+use lib.Dec.{ltb, lit<}
+use lib.IntN.{ℤ, pos, negsuc, negℤ, subℕ, _+ℤ_, _-ℤ_, _*ℤ_}
+use lib.Signed.{mag}
+use mir.Syntax.{w64}
+use mir.Val.{SFits}
+
+mag-cond : (t : Bool) (m n k : ℕ) → m ≤ k → n ≤ k → mag (cond t (negsuc m) (pos n)) ≤ k
+mag-cond true m n k h l = h
+mag-cond false m n k h l = l
+
+mag-subℕ : (a b : ℕ) → mag (subℕ a b) ≤ a + b
+mag-subℕ a b = mag-cond (ltb a b) (b - suc a) (a - b) (a + b) (omega arith) (omega arith)
+
+mag-add : (a b : ℤ) → mag (a +ℤ b) ≤ suc (mag a + mag b)
+mag-add (pos a) (pos b) = omega arith
+mag-add (pos a) (negsuc b) = omega (arith, mag-subℕ a (suc b))
+mag-add (negsuc a) (pos b) = omega (arith, mag-subℕ b (suc a))
+mag-add (negsuc a) (negsuc b) = omega arith
+
+mag-negℤ : (a : ℤ) → mag (negℤ a) ≤ suc (mag a)
+mag-negℤ (pos zero) = zero-le
+mag-negℤ (pos (suc n)) = omega arith
+mag-negℤ (negsuc n) = le-refl (suc n)
+
+mag-neg-pos : (n : ℕ) → mag (negℤ (pos n)) ≤ n
+mag-neg-pos zero = zero-le
+mag-neg-pos (suc n) = le-suc n
+
+mag-mul : (a b : ℤ) → mag (a *ℤ b) ≤ suc (mag a) * suc (mag b)
+mag-mul (pos a) (pos b) = mul-le-mul (le-suc a) (le-suc b)
+mag-mul (pos a) (negsuc b) = le-trans (mag-neg-pos (a * suc b)) (mul-le-mul (le-suc a) (le-refl (suc b)))
+mag-mul (negsuc a) (pos b) = le-trans (mag-neg-pos (suc a * b)) (mul-le-mul (le-refl (suc a)) (le-suc b))
+mag-mul (negsuc a) (negsuc b) = le-refl (suc a * suc b)
+
+pub add-fits : (a b : ℤ) → mag a ≤ 1000000 → mag b ≤ 1000000 → SFits w64 (a +ℤ b)
+add-fits a b h l = record { sfits = omega (arith, mag-add a b) }
+
+pub sub-fits : (a b : ℤ) → mag a ≤ 1000000 → mag b ≤ 1000000 → SFits w64 (a -ℤ b)
+sub-fits a b h l = record { sfits = omega (arith, mag-add a (negℤ b), mag-negℤ b) }
+
+pub mul-fits : (a b : ℤ) → mag a ≤ 1000000 → mag b ≤ 1000000 → SFits w64 (a *ℤ b)
+mul-fits a b h l = record { sfits = lt-of-le-of-lt (le-trans (mag-mul a b) (mul-le-mul {n₂ = 1000001} {m₂ = 1000001} (omega arith) (omega arith))) (lit< tt) }
