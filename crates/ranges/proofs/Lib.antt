@@ -1,0 +1,4 @@
+pub mod RangeLaws
+pub mod RowLaws
+mod FillLaws
+mod Calls

@@ -1,0 +1,112 @@
+-- A range from the ranges of the parts; ranges are in order, and within the limits their ends are small.
+-- Assumes nothing.
+use Prim.Native.Nat.{ℕ, _<_, _≤_}
+use mathlib.Core.Path.{_≡_, refl, sym, subst, _∙_}
+use mathlib.Core.List.{List}
+use native.Mathlib.Nat.{lt-trans, le-trans, le-of-lt}
+use native.Mathlib.Decide.{decLt}
+use native.Mathlib.Omega.{arith}
+use borrow.Author.Tests.{lt-ltb, le-ltb}
+use lib.ListN.{List·getD-eq-default}
+use lib.IntN.{ℤ, pos}
+use lib.Signed.{_≤ℤ_}
+use Rattle.folder.specs.Contents.{countOf, signedField}
+use Rattle.folder.specs.Tab.{tab}
+use Rattle.folder.proofs.TabLaws.{length-tab, getD-tab}
+use Rattle.whole.proofs.Order.{to-⊑, from-⊑, ⊑-refl, ⊑-trans}
+use Rattle.expressions.specs.Entries.{entriesOf, numberForm}
+use Rattle.expressions.specs.Levels.{numberStep, numberAt}
+use Rattle.expressions.specs.Parts.{EachN}
+use Rattle.expressions.specs.Meaning.{State, valueOf}
+use Rattle.expressions.specs.Ranges.{span, ranging, boundIn, rangeOf, limits}
+use Rattle.expressions.specs.Right.{Inside}
+use Rattle.expressions.specs.declared.NumberForm.{NumberForm}
+use Rattle.expressions.specs.declared.Range.{Range}
+use Rattle.expressions.proofs.Interval.{In, in-one, in-range}
+use Rattle.expressions.proofs.Levels.{equal, number-settled}
+use Rattle.expressions.proofs.Related.{number-step}
+use Rattle.expressions.proofs.Small.{small}
+use Rattle.ranges.specs.Settled.{Ordered, Near, Based, rangeIn, Ranged}
+
+-- ---- the range of a variable
+
+module _ (y : List ℕ) (v : ℕ) {n : ℕ} (e : n ≡ countOf 6 y) where
+  pub bound-here : v < n → span (signedField 6 y v 0) (signedField 6 y v 1) ≡ boundIn y v
+  unfolding boundIn
+  bound-here h = rw (lt-ltb v (countOf 6 y) (rw e at h)) refl
+
+  pub bound-past : n ≤ v → span (pos 0) (pos 0) ≡ boundIn y v
+  unfolding boundIn
+  bound-past h = rw (le-ltb v (countOf 6 y) (rw e at h)) refl
+
+-- ---- order
+
+low-in : {r : Range} → Ordered r → In r (r .low)
+low-in {r} h = record { low = from-⊑ (⊑-refl (r .low)); high = h .ends }
+
+high-in : {r : Range} → Ordered r → In r (r .high)
+high-in {r} h = record { low = h .ends; high = from-⊑ (⊑-refl (r .high)) }
+
+-- Row 4 says it of each variable.
+pub bounds-ordered : (y : List ℕ) → ((v : ℕ) → v < countOf 6 y → signedField 6 y v 0 ≤ℤ signedField 6 y v 1) → (v : ℕ) → Ordered (boundIn y v)
+bounds-ordered y h v = go (decLt v (countOf 6 y))
+  where
+    go : Dec (v < countOf 6 y) → Ordered (boundIn y v)
+    go (yes l) = rw (← bound-here y v refl l) (record { ends = h v l })
+    go (no l) = rw (← bound-past y v refl (omega arith)) (record { ends = from-⊑ (⊑-refl (pos 0)) })
+
+-- A range in which a number lies.
+in-ordered : {r : Range} {z : ℤ} → In r z → Ordered r
+in-ordered h = record { ends = from-⊑ (⊑-trans (to-⊑ (h .low)) (to-⊑ (h .high))) }
+
+near : {r : Range} → Ordered r → Inside r limits → Near r
+near h i = record { low = small (low-in h) i; high = small (high-in h) i }
+
+module _ (x y : List ℕ) (based : Based x y) where
+  -- The state in which each variable has its least value.
+  lowest : State
+  lowest = tab (countOf 6 y) (λ v. boundIn y v .low)
+
+  lowest-in : (v : ℕ) → In (boundIn y v) (valueOf lowest v)
+  unfolding lowest
+  lowest-in v = go (decLt v (countOf 6 y))
+    where
+      go : Dec (v < countOf 6 y) → In (boundIn y v) (valueOf lowest v)
+      go (yes h) = rw (getD-tab (pos 0) (countOf 6 y) (λ v. boundIn y v .low) v h) (low-in (based .ordered v))
+      go (no h) =
+          let l : countOf 6 y ≤ v = omega arith in
+          rw (List·getD-eq-default lowest (pos 0) {n = v} (rw length-tab l), ← bound-past y v refl l) (in-one (pos 0))
+
+  range-ordered : (e : ℕ) → Ordered (rangeIn x y e)
+  range-ordered e = in-ordered (in-range (entriesOf x) (boundIn y) lowest lowest-in e)
+
+-- ---- from the ranges of lower entries
+
+module _ {x y : List ℕ} {lows highs : List ℤ} {settled e : ℕ} (ranged : Ranged x y lows highs settled e) where
+  pub down : {t p : ℕ} → e ≡ t → p < e → (p < t) × Ranged x y lows highs settled p
+  down {t} {p} q h = (
+    subst (λ (k : ℕ). p < k) q h,
+    record {
+      based = ranged .based;
+      rows = ranged .rows;
+      inside = λ i l. ranged .inside i (lt-trans l h);
+      small = le-trans (le-of-lt h) (ranged .small);
+    },
+  )
+
+  pub part-near : {p : ℕ} {r : Range} → p < e → r ≡ rangeIn x y p → Near r
+  part-near {p} h q = subst (λ (r : Range). Near r) (sym q) (near (range-ordered x y (ranged .based) p) (ranged .inside p h))
+
+  -- Entry e, whose form is f.
+  module _ {f : NumberForm} (h : numberForm (entriesOf x) e ≡ f) where
+    pub parts : EachN (λ p. p < e) (λ p. p < e) f
+    parts = subst (λ (g : NumberForm). EachN (λ p. p < e) (λ p. p < e) g) h (ranged .based .lower .number e)
+
+    pub level : numberStep (ranging (boundIn y)) (rangeIn x y) (λ p. tt) f ≡ rangeIn x y e
+    unfolding rangeOf numberAt
+    level =
+        number-step (ranging (boundIn y)) (ranging (boundIn y)) _≡_ _≡_ (equal (ranging (boundIn y)))
+        (λ p l. sym (number-settled (ranging (boundIn y)) (entriesOf x) (ranged .based .lower) e p l))
+        (λ p l. refl)
+        f parts
+        ∙ rw (← h)

@@ -1,0 +1,70 @@
+-- Rows that are filled from the front hold the ranges: a look-up is the entry's range. Where row 6 holds, every entry's range can
+-- be asked for.
+-- Assumes nothing.
+use Prim.Native.Nat.{ℕ, suc, _+_, _<_, _≤_}
+use mathlib.Core.Path.{_≡_, refl, ap₂, _∙_}
+use mathlib.Core.List.{List, _++_, append-assoc}
+use native.Mathlib.Numerals.{add-one}
+use native.Mathlib.Decide.{decLt}
+use native.Mathlib.Omega.{arith}
+use borrow.Author.Tests.{le-ltb}
+use lib.ListN.{length, getD, drop, set, length-append, length-drop, List·getD-append}
+use lib.Seq.{drop-cons, set-at}
+use lib.IntN.{ℤ, pos}
+use Rattle.folder.specs.Contents.{countOf}
+use Rattle.folder.specs.Scan.{firstBad}
+use Rattle.folder.specs.Tab.{tab}
+use Rattle.folder.proofs.ScanLaws.{found}
+use Rattle.folder.proofs.TabLaws.{length-tab, getD-tab}
+use Rattle.expressions.specs.Entries.{entriesOf, numberForm}
+use Rattle.expressions.specs.Levels.{numberAt}
+use Rattle.expressions.specs.Ranges.{span, boundIn, rangeOf, inside, limits}
+use Rattle.expressions.specs.Right.{Inside}
+use Rattle.expressions.specs.Rules.{rangeFits}
+use Rattle.expressions.proofs.Decided.{inside-decided, range-decided}
+use Rattle.ranges.specs.Settled.{rangeIn, Based, lowEnds, highEnds, Settled, Ranged}
+
+module _ {A : Type 0} (d : List A) (f : ℕ → A) where
+  pub tab-none : d ≡ tab 0 f ++ drop 0 d
+  unfolding tab
+  tab-none = refl
+
+  -- One more place is filled.
+  pub tab-more : (z : A) (i : ℕ) → i < length d → set (tab i f ++ drop i d) i (f i) ≡ tab (i + 1) f ++ drop (i + 1) d
+  unfolding tab
+  tab-more z i h = rw (add-one, drop-cons d i z, append-assoc) (set-at (tab i f) (getD d i z) (drop (suc i) d) (f i) i (length-tab i f))
+
+  pub length-filled : (n : ℕ) → n ≤ length d → length (tab n f ++ drop n d) ≡ length d
+  length-filled n h = simp (length-append, length-tab, length-drop) (omega arith)
+
+  pub filled-at : (z : A) (n i : ℕ) → i < n → getD (tab n f ++ drop n d) i z ≡ f i
+  filled-at z n i h = List·getD-append (tab n f) (drop n d) z i (rw (length-tab n f) h) ∙ getD-tab z n f i h
+
+pub settled : (x y : List ℕ) (n : ℕ) (lows highs lows₀ highs₀ : List ℤ)
+    → lows ≡ lowEnds x y n lows₀ → highs ≡ highEnds x y n highs₀ → n ≤ length lows₀ → n ≤ length highs₀ → Settled x y lows highs n
+settled x y n lows highs lows₀ highs₀ p q h l = record {
+  low-row = rw (p, length-filled lows₀ (λ e. rangeIn x y e .low) n h) h;
+  high-row = rw (q, length-filled highs₀ (λ e. rangeIn x y e .high) n l) l;
+  is = λ i k. rw (p, q) (ap₂ span (filled-at lows₀ (λ e. rangeIn x y e .low) (pos 0) n i k) (filled-at highs₀ (λ e. rangeIn x y e .high) (pos 0) n i k));
+}
+
+-- Where none of the first n ranges leaves the limits.
+pub inside-below : (x y : List ℕ) (n : ℕ) → firstBad (rangeFits (entriesOf x) (boundIn y)) n ≡ n → (i : ℕ) → i < n → Inside (rangeIn x y i) limits
+inside-below x y n h i l = range-decided (entriesOf x) (boundIn y) i .yes (found (rangeFits (entriesOf x) (boundIn y)) n .before i (rw h l))
+
+-- A missing entry.
+range-past : (x y : List ℕ) (e : ℕ) → countOf 8 x ≤ e → rangeIn x y e ≡ span (pos 0) (pos 0)
+unfolding rangeOf numberAt numberForm
+range-past x y e h = rw (le-ltb e (countOf 8 x) h) refl
+
+zero-inside : Inside (span (pos 0) (pos 0)) limits
+unfolding inside
+zero-inside = inside-decided (span (pos 0) (pos 0)) limits .yes refl
+
+module _ {x y : List ℕ} {lows highs : List ℤ} {n : ℕ} (based : Based x y) (rows : Settled x y lows highs n) where
+  pub every-ranged : firstBad (rangeFits (entriesOf x) (boundIn y)) (countOf 8 x) ≡ countOf 8 x → (e : ℕ) → e ≤ 65536 → Ranged x y lows highs n e
+  every-ranged h e small = record { based = based; rows = rows; inside = λ i l. go i (decLt i (countOf 8 x)); small = small }
+    where
+      go : (i : ℕ) → Dec (i < countOf 8 x) → Inside (rangeIn x y i) limits
+      go i (yes l) = inside-below x y (countOf 8 x) h i l
+      go i (no l) = rw (range-past x y i (omega arith)) zero-inside
