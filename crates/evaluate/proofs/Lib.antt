@@ -1,0 +1,4 @@
+pub mod Bits
+pub mod Truths
+pub mod Readable
+pub mod Level

@@ -1,0 +1,139 @@
+-- Expressions that rows 5 and 6 pass can be read in a label whose values lie in the ranges, by 12 levels; and in a state,
+-- which is the label that tracks every variable.
+-- Assumes nothing.
+use Prim.Native.Nat.{ℕ, _<_, _≤_}
+use mathlib.Core.Path.{_≡_, refl, sym, _∙_, subst}
+use mathlib.Core.Bool.{Bool, true, false}
+use mathlib.Core.List.{List}
+use native.Mathlib.Decide.{decLt}
+use native.Mathlib.Omega.{arith}
+use borrow.Author.Tests.{le-ltb}
+use lib.ListN.{getD}
+use lib.IntN.{ℤ, pos}
+use Rattle.folder.specs.Pick.{pick}
+use Rattle.folder.specs.Scan.{firstBad}
+use Rattle.folder.proofs.Decides.{everywhere, passes}
+use Rattle.expressions.specs.Entries.{Entries, numberForm, truthForm}
+use Rattle.expressions.specs.Levels.{numberAt, truthAt}
+use Rattle.expressions.specs.Meaning.{State, valueOf, numberIn, truthIn}
+use Rattle.expressions.specs.Reading.{knownTruth, hasBit, lookIn, reading, readNumber, readTruth}
+use Rattle.expressions.specs.Ranges.{span, rangeOf, limits}
+use Rattle.expressions.specs.Rules.{deepest, depthOf}
+use Rattle.expressions.specs.Right.{IsNumber, IsTruth, Inside}
+use Rattle.expressions.specs.Parts.{Lower}
+use Rattle.expressions.specs.declared.Number.{Number}
+use Rattle.expressions.specs.declared.Number.the-variants.{Known, Unknown as Open}
+use Rattle.expressions.specs.declared.Truth.the-variants.{True, False, Unknown}
+use Rattle.expressions.specs.declared.Range.{Range}
+use Rattle.expressions.proofs.Interval.{In}
+use Rattle.expressions.proofs.Levels.{lower, number-deep, truth-deep}
+use Rattle.expressions.proofs.Small.{InN, in-range-at, small}
+use Rattle.expressions.proofs.Sound.{Says, number-sound, truth-sound, known-is, true-is, false-is}
+use Rattle.expressions.proofs.Whole.{whole-number, whole-truth}
+use Rattle.evaluate.specs.Bounded.{Bounded}
+use Rattle.evaluate.specs.Formed.{Formed, Values, Ready, Grounded}
+
+in-known : {r : Range} {a : Number} (z : ℤ) → InN r a → a ≡ Known z → In r z
+in-known {r} z (InN.known-in h) e = subst (λ (w : ℤ). In r w) (cc) h
+in-known z InN.open-in e = absurd (let k : _≡_ {A = ℕ} 0 1 = cc in omega arith)
+
+-- ---- rows 5 and 6
+module _ (x : Entries) (variables : ℕ) (bound : ℕ → Range) (formed : Formed x variables bound) where
+  parts-lower : Lower x
+  parts-lower = lower x variables (formed .right)
+
+  -- An entry past the last is of no form.
+  past-range : (e : ℕ) → x .count ≤ e → rangeOf x bound e ≡ span (pos 0) (pos 0)
+  unfolding rangeOf numberAt numberForm
+  past-range e l = rw (le-ltb e (x .count) l)
+
+  past-depth : (e : ℕ) → x .count ≤ e → depthOf x e ≡ 0
+  unfolding depthOf numberAt truthAt numberForm truthForm
+  past-depth e l = rw (le-ltb e (x .count) l)
+
+  narrow : (e : ℕ) → Inside (rangeOf x bound e) limits
+  narrow e = go (decLt e (x .count))
+    where
+      go : Dec (e < x .count) → Inside (rangeOf x bound e) limits
+      go (yes l) = formed .ranges e l
+      go (no g) = rw (past-range e (omega arith)) (record { low = record { le = tt }; high = record { le = tt } })
+
+  shallow : (e : ℕ) → depthOf x e ≤ deepest
+  shallow e = go (decLt e (x .count))
+    where
+      go : Dec (e < x .count) → depthOf x e ≤ deepest
+      go (yes l) = formed .right e l .depth
+      go (no g) = omega (arith, past-depth e (omega arith))
+
+  value-in : (t : ℕ) (v : List ℤ) → Values t v bound → (i : ℕ) → InN (bound i) (lookIn t v i)
+  unfolding lookIn
+  value-in t v h i = go (hasBit t i) refl
+    where
+      go : (b : Bool) → hasBit t i ≡ b → InN (bound i) (pick b (Known (getD v i (pos 0))) Open)
+      go true e = InN.known-in (record { low = h .low i e; high = h .high i e })
+      go false e = InN.open-in
+
+-- ---- a label
+module _ (x : Entries) (t : ℕ) (v : List ℤ) (ready : Ready x t v) where
+  pub bounded : Bounded x (lookIn t v)
+  unfolding Bounded
+  bounded n e z k =
+      let f = ready .formed in
+      small (in-known z (in-range-at x (parts-lower x _ _ f) (ready .bound) (lookIn t v) (value-in x _ _ f t v (ready .values)) n e) k) (narrow x _ _ f e)
+
+  pub number-enough : (e : ℕ) → numberAt (reading (lookIn t v)) x deepest e ≡ readNumber x (lookIn t v) e
+  unfolding readNumber
+  number-enough e = let f = ready .formed in number-deep (reading (lookIn t v)) x (parts-lower x _ _ f) deepest e (shallow x _ _ f e)
+
+  pub truth-enough : (e : ℕ) → truthAt (reading (lookIn t v)) x deepest e ≡ readTruth x (lookIn t v) e
+  unfolding readTruth
+  truth-enough e = let f = ready .formed in truth-deep (reading (lookIn t v)) x (parts-lower x _ _ f) deepest e (shallow x _ _ f e)
+
+-- ---- a state
+sixteen : (i : ℕ) → i < 16 → hasBit 65535 i ≡ true
+unfolding firstBad hasBit
+sixteen = everywhere 16 (λ i l. passes (hasBit 65535 i)) .yes refl
+
+module _ (x : Entries) (s : State) (grounded : Grounded x s) where
+  pub ready : Ready x 65535 s
+  ready = record {
+    variables = grounded .variables;
+    bound = grounded .bound;
+    formed = grounded .formed;
+    values = record { low = λ i h. grounded .low i; high = λ i h. grounded .high i };
+  }
+
+  told : (i : ℕ) → i < grounded .variables → (z : ℤ) × (lookIn 65535 s i ≡ Known z)
+  unfolding lookIn
+  told i l = (valueOf s i, rw (sixteen i (omega (arith, grounded .few))))
+
+  says : (i : ℕ) → Says (lookIn 65535 s i) (valueOf s i)
+  unfolding lookIn
+  says i = go (hasBit 65535 i)
+    where
+      go : (b : Bool) → Says (pick b (Known (valueOf s i)) Open) (valueOf s i)
+      go true = Says.known
+      go false = Says.open-number
+
+  module _ (e : ℕ) where
+    pub number-known : (z : ℤ) → readNumber x (lookIn 65535 s) e ≡ Known z → z ≡ numberIn x s e
+    number-known z h = sym (known-is z (number-sound x (lookIn 65535 s) s says e) h)
+
+    pub number-open : IsNumber x e → readNumber x (lookIn 65535 s) e ≡ Open → ⊥
+    number-open n h =
+        let w = whole-number x (grounded .variables) (grounded .formed .right) (lookIn 65535 s) told e n in
+        let k : _≡_ {A = ℕ} 0 1 = cc (w .1) in
+        omega arith
+
+    pub truth-true : readTruth x (lookIn 65535 s) e ≡ True → true ≡ truthIn x s e
+    truth-true h = sym (true-is (truth-sound x (lookIn 65535 s) s says e) h)
+
+    pub truth-false : readTruth x (lookIn 65535 s) e ≡ False → false ≡ truthIn x s e
+    truth-false h = sym (false-is (truth-sound x (lookIn 65535 s) s says e) h)
+
+    pub truth-open : IsTruth x e → readTruth x (lookIn 65535 s) e ≡ Unknown → ⊥
+    truth-open n h = let w = whole-truth x (grounded .variables) (grounded .formed .right) (lookIn 65535 s) told e n in go (w .0) (sym h ∙ w .1)
+      where
+        go : (b : Bool) → Unknown ≡ knownTruth b → ⊥
+        go true k = let j : _≡_ {A = ℕ} 0 1 = cc in omega arith
+        go false k = let j : _≡_ {A = ℕ} 0 1 = cc in omega arith

@@ -1,0 +1,260 @@
+// Evaluators of numbers and of truths: what an entry reads as in a label, and what it is in a state.
+ghost use mathlib.Core.Path.{_≡_};
+ghost use Prim.Native.Nat.{_≤_};
+ghost use lib.ListN.{getD};
+ghost use lib.IntN.{pos};
+ghost use lib.Signed.{mag};
+ghost use Rattle.expressions.specs.Entries.{entriesOf};
+ghost use Rattle.expressions.specs.Levels.{numberAt, truthAt};
+ghost use Rattle.expressions.specs.Meaning.{numberIn, truthIn};
+ghost use Rattle.expressions.specs.Operations.{arithZ, relates};
+ghost use Rattle.expressions.specs.Reading.{arithN, chooseN, compareN, notT, andT, orT, joinT, hasBit, lookIn, reading, readNumber, readTruth};
+ghost use Rattle.expressions.specs.Right.{IsNumber, IsTruth};
+ghost use Rattle.evaluate.specs.Bounded.{Small, Bounded};
+ghost use Rattle.evaluate.specs.Formed.{Ready, Grounded};
+use expressions::Arith;
+use expressions::Join;
+use expressions::Number;
+use expressions::NumberForm;
+use expressions::Relation;
+use expressions::Truth;
+use expressions::TruthForm;
+
+// Variable i is in the set t.
+pub fn has_bit(t: usize, i: usize) -> bool
+    ensures { λ r. ⌜ r ≡ hasBit t i ⌝ }
+{
+    if i < 64 { (t >> i) % 2 == 1 } else { false }
+}
+
+// The value of variable i; past the last, 0.
+pub fn value_at(v: &[i64], i: usize) -> i64
+    ensures { λ r. ⌜ r ≡ getD (now (v .entry)) i (pos 0) ⌝ }
+{
+    if i < v.len() { v[i] } else { 0 }
+}
+
+// What the label with the set t and the values v says of variable i.
+pub fn look_in(t: usize, v: &[i64], i: usize) -> Number
+    ensures { λ r. ⌜ r ≡ lookIn t (now (v .entry)) i ⌝ }
+{
+    if has_bit(t, i) {
+        Number::Known(value_at(v, i))
+    } else {
+        Number::Unknown
+    }
+}
+
+// Operations on numbers, where both are known.
+pub fn arith_of(k: Arith, a: i64, b: i64) -> i64
+    requires { ⌜ (mag a ≤ 1000000) × (mag b ≤ 1000000) ⌝ }
+    ensures { λ r. ⌜ r ≡ arithZ k a b ⌝ }
+{
+    match k {
+        Arith::Add => whole::add(a, b),
+        Arith::Subtract => whole::sub(a, b),
+        Arith::Multiply => whole::mul(a, b),
+        Arith::Smaller => whole::min(a, b),
+        Arith::Larger => whole::max(a, b),
+    }
+}
+
+pub fn relate(k: Relation, a: i64, b: i64) -> bool
+    ensures { λ r. ⌜ r ≡ relates k a b ⌝ }
+{
+    match k {
+        Relation::Equal => whole::equal(a, b),
+        Relation::Less => whole::less(a, b),
+        Relation::AtMost => whole::at_most(a, b),
+    }
+}
+
+// Operations on readings.
+pub fn combine(k: Arith, a: Number, b: Number) -> Number
+    requires { ⌜ Small a × Small b ⌝ }
+    ensures { λ r. ⌜ r ≡ arithN k a b ⌝ }
+{
+    match a {
+        Number::Known(m) => match b {
+            Number::Known(n) => Number::Known(arith_of(k, m, n)),
+            Number::Unknown => Number::Unknown,
+        },
+        Number::Unknown => Number::Unknown,
+    }
+}
+
+pub fn choose(t: Truth, a: Number, b: Number) -> Number
+    ensures { λ r. ⌜ r ≡ chooseN t a b ⌝ }
+{
+    match a {
+        Number::Known(_) => match b {
+            Number::Known(_) => match t {
+                Truth::True => a,
+                Truth::False => b,
+                Truth::Unknown => Number::Unknown,
+            },
+            Number::Unknown => Number::Unknown,
+        },
+        Number::Unknown => Number::Unknown,
+    }
+}
+
+pub fn compare(k: Relation, a: Number, b: Number) -> Truth
+    ensures { λ r. ⌜ r ≡ compareN k a b ⌝ }
+{
+    match a {
+        Number::Known(m) => match b {
+            Number::Known(n) => {
+                if relate(k, m, n) {
+                    Truth::True
+                } else {
+                    Truth::False
+                }
+            }
+            Number::Unknown => Truth::Unknown,
+        },
+        Number::Unknown => Truth::Unknown,
+    }
+}
+
+pub fn negate(a: Truth) -> Truth
+    ensures { λ r. ⌜ r ≡ notT a ⌝ }
+{
+    match a {
+        Truth::True => Truth::False,
+        Truth::False => Truth::True,
+        Truth::Unknown => Truth::Unknown,
+    }
+}
+
+pub fn both(a: Truth, b: Truth) -> Truth
+    ensures { λ r. ⌜ r ≡ andT a b ⌝ }
+{
+    match a {
+        Truth::True => b,
+        Truth::False => Truth::False,
+        Truth::Unknown => match b {
+            Truth::True => Truth::Unknown,
+            Truth::False => Truth::False,
+            Truth::Unknown => Truth::Unknown,
+        },
+    }
+}
+
+pub fn either(a: Truth, b: Truth) -> Truth
+    ensures { λ r. ⌜ r ≡ orT a b ⌝ }
+{
+    match a {
+        Truth::True => Truth::True,
+        Truth::False => b,
+        Truth::Unknown => match b {
+            Truth::True => Truth::True,
+            Truth::False => Truth::Unknown,
+            Truth::Unknown => Truth::Unknown,
+        },
+    }
+}
+
+pub fn joined(k: Join, a: Truth, b: Truth) -> Truth
+    ensures { λ r. ⌜ r ≡ joinT k a b ⌝ }
+{
+    match k {
+        Join::And => both(a, b),
+        Join::Or => either(a, b),
+    }
+}
+
+// How entry e of the body x reads in the label with the set t and the values v, with `left` levels to go. The evaluators
+// of numbers and of truths call each other; the levels left fall.
+pub fn read_number(x: &[u8], t: usize, v: &[i64], e: usize, left: usize) -> Number
+    requires { ⌜ Bounded (entriesOf (now x)) (lookIn t (now v)) ⌝ }
+    requires { ⌜ e ≤ 65536 ⌝ }
+    ensures { λ r. ⌜ r ≡ numberAt (reading (lookIn t (now (v .entry)))) (entriesOf (now (x .entry))) left e ⌝ }
+{
+    if left == 0 {
+        return Number::Unknown;
+    }
+    let n = left - 1;
+    let f = expressions::number_form(x, e);
+    match f {
+        NumberForm::Constant(z) => Number::Known(z),
+        NumberForm::Variable(i) => look_in(t, v, i),
+        NumberForm::Binary(k, p, q) => {
+            combine(k, read_number(x, t, v, p, n), read_number(x, t, v, q, n))
+        }
+        NumberForm::If(c, p, q) => {
+            choose(
+                read_truth(x, t, v, c, n),
+                read_number(x, t, v, p, n),
+                read_number(x, t, v, q, n),
+            )
+        }
+        NumberForm::NoNumber => Number::Unknown,
+    }
+}
+
+pub fn read_truth(x: &[u8], t: usize, v: &[i64], e: usize, left: usize) -> Truth
+    requires { ⌜ Bounded (entriesOf (now x)) (lookIn t (now v)) ⌝ }
+    requires { ⌜ e ≤ 65536 ⌝ }
+    ensures { λ r. ⌜ r ≡ truthAt (reading (lookIn t (now (v .entry)))) (entriesOf (now (x .entry))) left e ⌝ }
+{
+    if left == 0 {
+        return Truth::Unknown;
+    }
+    let n = left - 1;
+    let f = expressions::truth_form(x, e);
+    match f {
+        TruthForm::Compare(k, p, q) => {
+            compare(k, read_number(x, t, v, p, n), read_number(x, t, v, q, n))
+        }
+        TruthForm::Not(p) => negate(read_truth(x, t, v, p, n)),
+        TruthForm::Joined(k, p, q) => {
+            joined(k, read_truth(x, t, v, p, n), read_truth(x, t, v, q, n))
+        }
+        TruthForm::Always => Truth::True,
+        TruthForm::NoTruth => Truth::Unknown,
+    }
+}
+
+// How entry e reads. The depth of an expression is at most 12.
+pub fn number_at(x: &[u8], t: usize, v: &[i64], e: usize) -> Number
+    requires { ⌜ Ready (entriesOf (now x)) t (now v) ⌝ }
+    requires { ⌜ e ≤ 65536 ⌝ }
+    ensures { λ r. ⌜ r ≡ readNumber (entriesOf (now (x .entry))) (lookIn t (now (v .entry))) e ⌝ }
+{
+    read_number(x, t, v, e, 12)
+}
+
+pub fn truth_at(x: &[u8], t: usize, v: &[i64], e: usize) -> Truth
+    requires { ⌜ Ready (entriesOf (now x)) t (now v) ⌝ }
+    requires { ⌜ e ≤ 65536 ⌝ }
+    ensures { λ r. ⌜ r ≡ readTruth (entriesOf (now (x .entry))) (lookIn t (now (v .entry))) e ⌝ }
+{
+    read_truth(x, t, v, e, 12)
+}
+
+// What entry e is in the state s, which is the label that tracks every variable, of 16 at most.
+pub fn number_in(x: &[u8], s: &[i64], e: usize) -> i64
+    requires { ⌜ Grounded (entriesOf (now x)) (now s) ⌝ }
+    requires { ⌜ IsNumber (entriesOf (now x)) e ⌝ }
+    requires { ⌜ e ≤ 65536 ⌝ }
+    ensures { λ r. ⌜ r ≡ numberIn (entriesOf (now (x .entry))) (now (s .entry)) e ⌝ }
+{
+    match number_at(x, 65535, s, e) {
+        Number::Known(z) => z,
+        Number::Unknown => 0,
+    }
+}
+
+pub fn truth_in(x: &[u8], s: &[i64], e: usize) -> bool
+    requires { ⌜ Grounded (entriesOf (now x)) (now s) ⌝ }
+    requires { ⌜ IsTruth (entriesOf (now x)) e ⌝ }
+    requires { ⌜ e ≤ 65536 ⌝ }
+    ensures { λ r. ⌜ r ≡ truthIn (entriesOf (now (x .entry))) (now (s .entry)) e ⌝ }
+{
+    match truth_at(x, 65535, s, e) {
+        Truth::True => true,
+        Truth::False => false,
+        Truth::Unknown => false,
+    }
+}
