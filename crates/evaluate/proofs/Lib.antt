@@ -1,4 +1,5 @@
 pub mod Bits
-pub mod Truths
-pub mod Readable
 pub mod Level
+pub mod Readable
+pub mod Fill
+pub mod Rows

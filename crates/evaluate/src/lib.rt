@@ -1,9 +1,12 @@
 // Evaluators of numbers and of truths: what an entry reads as in a label, and what it is in a state.
 ghost use mathlib.Core.Path.{_≡_};
+ghost use mathlib.Core.List.{_++_};
 ghost use Prim.Native.Nat.{_≤_};
-ghost use lib.ListN.{getD};
+ghost use lib.ListN.{getD, length, drop};
 ghost use lib.IntN.{pos};
 ghost use lib.Signed.{mag};
+ghost use Rattle.folder.specs.Contents.{countOf};
+ghost use Rattle.folder.specs.Tab.{tab};
 ghost use Rattle.expressions.specs.Entries.{entriesOf};
 ghost use Rattle.expressions.specs.Levels.{numberAt, truthAt};
 ghost use Rattle.expressions.specs.Meaning.{numberIn, truthIn};
@@ -12,6 +15,7 @@ ghost use Rattle.expressions.specs.Reading.{arithN, chooseN, compareN, notT, an
 ghost use Rattle.expressions.specs.Right.{IsNumber, IsTruth};
 ghost use Rattle.evaluate.specs.Bounded.{Small, Bounded};
 ghost use Rattle.evaluate.specs.Formed.{Ready, Grounded};
+ghost use Rattle.evaluate.specs.Settled.{asNumber, flagOf, contentOf, numberFrom, truthFrom, entryReading, flagAt, contentAt, Settled};
 use expressions::Arith;
 use expressions::Join;
 use expressions::Number;
@@ -256,5 +260,150 @@ pub fn truth_in(x: &[u8], s: &[i64], e: usize) -> bool
         Truth::True => true,
         Truth::False => false,
         Truth::Unknown => false,
+    }
+}
+
+// The readings of all entries in one label, as two rows: `known` has 1 for an entry that reads known, else 0, and `values`
+// its number, or 1 for true, else 0. Each entry is read from its parts, which stand below it.
+
+// A truth as a number.
+pub fn as_number(a: Truth) -> Number
+    ensures { λ r. ⌜ r ≡ asNumber a ⌝ }
+{
+    match a {
+        Truth::True => Number::Known(1),
+        Truth::False => Number::Known(0),
+        Truth::Unknown => Number::Unknown,
+    }
+}
+
+fn flag_of(a: Number) -> u8
+    ensures { λ r. ⌜ r ≡ flagOf a ⌝ }
+{
+    match a {
+        Number::Known(_) => 1,
+        Number::Unknown => 0,
+    }
+}
+
+fn content_of(a: Number) -> i64
+    ensures { λ r. ⌜ r ≡ contentOf a ⌝ }
+{
+    match a {
+        Number::Known(z) => z,
+        Number::Unknown => 0,
+    }
+}
+
+// The reading of entry e in the rows, as a number and as a truth.
+pub fn settled_number(known: &[u8], values: &[i64], e: usize) -> Number
+    ensures { λ r. ⌜ r ≡ numberFrom (getD (now (known .entry)) e 0) (getD (now (values .entry)) e (pos 0)) ⌝ }
+{
+    if folder::byte_at(known, e) == 1 {
+        Number::Known(value_at(values, e))
+    } else {
+        Number::Unknown
+    }
+}
+
+pub fn settled_truth(known: &[u8], values: &[i64], e: usize) -> Truth
+    ensures { λ r. ⌜ r ≡ truthFrom (getD (now (known .entry)) e 0) (getD (now (values .entry)) e (pos 0)) ⌝ }
+{
+    if folder::byte_at(known, e) == 1 {
+        if whole::equal(value_at(values, e), 1) {
+            Truth::True
+        } else {
+            Truth::False
+        }
+    } else {
+        Truth::Unknown
+    }
+}
+
+// How entry e reads, from the rows of the entries below it.
+fn settle_number(x: &[u8], t: usize, v: &[i64], known: &[u8], values: &[i64], e: usize) -> Number
+    requires { ⌜ Ready (entriesOf (now x)) t (now v) ⌝ }
+    requires { ⌜ Settled (entriesOf (now x)) (lookIn t (now v)) e (now known) (now values) ⌝ }
+    requires { ⌜ e ≤ 65536 ⌝ }
+    ensures { λ r. ⌜ r ≡ readNumber (entriesOf (now (x .entry))) (lookIn t (now (v .entry))) e ⌝ }
+{
+    let f = expressions::number_form(x, e);
+    match f {
+        NumberForm::Constant(z) => Number::Known(z),
+        NumberForm::Variable(i) => look_in(t, v, i),
+        NumberForm::Binary(k, p, q) => {
+            combine(
+                k,
+                settled_number(known, values, p),
+                settled_number(known, values, q),
+            )
+        }
+        NumberForm::If(c, p, q) => {
+            choose(
+                settled_truth(known, values, c),
+                settled_number(known, values, p),
+                settled_number(known, values, q),
+            )
+        }
+        NumberForm::NoNumber => Number::Unknown,
+    }
+}
+
+fn settle_truth(x: &[u8], t: usize, v: &[i64], known: &[u8], values: &[i64], e: usize) -> Truth
+    requires { ⌜ Ready (entriesOf (now x)) t (now v) ⌝ }
+    requires { ⌜ Settled (entriesOf (now x)) (lookIn t (now v)) e (now known) (now values) ⌝ }
+    requires { ⌜ e ≤ 65536 ⌝ }
+    ensures { λ r. ⌜ r ≡ readTruth (entriesOf (now (x .entry))) (lookIn t (now (v .entry))) e ⌝ }
+{
+    let f = expressions::truth_form(x, e);
+    match f {
+        TruthForm::Compare(k, p, q) => {
+            compare(
+                k,
+                settled_number(known, values, p),
+                settled_number(known, values, q),
+            )
+        }
+        TruthForm::Not(p) => negate(settled_truth(known, values, p)),
+        TruthForm::Joined(k, p, q) => {
+            joined(
+                k,
+                settled_truth(known, values, p),
+                settled_truth(known, values, q),
+            )
+        }
+        TruthForm::Always => Truth::True,
+        TruthForm::NoTruth => Truth::Unknown,
+    }
+}
+
+fn settle_entry(x: &[u8], t: usize, v: &[i64], known: &[u8], values: &[i64], e: usize) -> Number
+    requires { ⌜ Ready (entriesOf (now x)) t (now v) ⌝ }
+    requires { ⌜ Settled (entriesOf (now x)) (lookIn t (now v)) e (now known) (now values) ⌝ }
+    requires { ⌜ e ≤ 65536 ⌝ }
+    ensures { λ r. ⌜ r ≡ entryReading (entriesOf (now (x .entry))) (lookIn t (now (v .entry))) e ⌝ }
+{
+    if expressions::is_number(x, e) {
+        settle_number(x, t, v, known, values, e)
+    } else {
+        as_number(settle_truth(x, t, v, known, values, e))
+    }
+}
+
+// Fills the rows, upward.
+pub fn settle(x: &[u8], t: usize, v: &[i64], known: &mut [u8], values: &mut [i64])
+    requires { ⌜ Ready (entriesOf (now x)) t (now v) ⌝ }
+    requires { ⌜ countOf 8 (now x) ≤ 65536 ⌝ }
+    requires { ⌜ (countOf 8 (now x) ≤ length (now known)) × (countOf 8 (now x) ≤ length (now values)) ⌝ }
+    ensures { λ _. ⌜ now (known .exit) ≡ tab (countOf 8 (now (x .entry))) (flagAt (entriesOf (now (x .entry))) (lookIn t (now (v .entry)))) ++ drop (countOf 8 (now (x .entry))) (now (known .entry)) ⌝ }
+    ensures { λ _. ⌜ now (values .exit) ≡ tab (countOf 8 (now (x .entry))) (contentAt (entriesOf (now (x .entry))) (lookIn t (now (v .entry)))) ++ drop (countOf 8 (now (x .entry))) (now (values .entry)) ⌝ }
+{
+    let n = folder::count_of(8, x);
+    let mut e = 0;
+    while e < n {
+        let r = settle_entry(x, t, v, known, values, e);
+        known[e] = flag_of(r);
+        values[e] = content_of(r);
+        e += 1;
     }
 }

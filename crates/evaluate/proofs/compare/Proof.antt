@@ -1,7 +1,7 @@
-use mathlib.Core.Path.{_∙_, ap₂, sym}
+use mathlib.Core.Path.{_∙_, ap, ap₂, sym}
 use Rattle.folder.proofs.Signed.{back}
 use Rattle.expressions.specs.Operations.{relates}
-use Rattle.evaluate.proofs.Truths.{truth-on, truth-off}
+use Rattle.expressions.specs.Reading.{knownTruth}
 use borrow.Author.Needs.{needs}
 use Rattle.evaluate.proofs.compare.Statement.{statement}
 use Rattle.evaluate.proofs.compare.Tie as tie
@@ -13,7 +13,7 @@ returns c =
     let b = d .before in
     let a = b .before .before .before in
     rw (a .a .given .1, b .b .given .1)
-    (truth-on (sym (r .relate .ensures ∙ ap₂ (relates (a .before .before .args .k)) (back (b .before .before .known-told .given .0 .1)) (back (d .known-told2 .given .0 .1))) ∙ c .if1 .taken))
+    (sym (ap knownTruth (sym (r .relate .ensures ∙ ap₂ (relates (a .before .before .args .k)) (back (b .before .before .known-told .given .0 .1)) (back (d .known-told2 .given .0 .1))) ∙ c .if1 .taken)))
 
 returns-2 : tie.Need-returns-2
 returns-2 c =
@@ -22,7 +22,7 @@ returns-2 c =
     let b = d .before in
     let a = b .before .before .before in
     rw (a .a .given .1, b .b .given .1)
-    (truth-off (sym (r .relate .ensures ∙ ap₂ (relates (a .before .before .args .k)) (back (b .before .before .known-told .given .0 .1)) (back (d .known-told2 .given .0 .1))) ∙ c .if1 .left))
+    (sym (ap knownTruth (sym (r .relate .ensures ∙ ap₂ (relates (a .before .before .args .k)) (back (b .before .before .known-told .given .0 .1)) (back (d .known-told2 .given .0 .1))) ∙ c .if1 .left)))
 
 pub compare-spec : {M : Type 1} → statement M
 compare-spec =
