@@ -40,7 +40,7 @@ records-decided m e =
     ((same (length (body m e) % recordSize m e) 0 ∧also at-most 1 (recordCount m e)) ∧also at-most (recordCount m e) (mostOf e))
 
 module _ (M : Model) where
-  variable-decided : (v : ℕ) → Decides (VariableRight M v) (variableFits M v)
+  pub variable-decided : (v : ℕ) → Decides (VariableRight M v) (variableFits M v)
   unfolding variableFits
   variable-decided v =
       reworded (λ h. record { ordered = h .0; least = h .1 .0 .0; most = h .1 .0 .1; initial-low = h .1 .1 .0; initial-high = h .1 .1 .1 })

@@ -8,3 +8,4 @@ pub mod Step
 pub mod View
 pub mod Pedal
 pub mod Valid
+pub mod Bodies

@@ -1,1 +1,440 @@
-// The model folder.
+// The model folder: the counts and sizes of its records, the model check, and the view.
+ghost use mathlib.Core.Path.{_≡_};
+ghost use mathlib.Core.List.{List, []};
+ghost use Prim.Native.Nat.{ℕ, _+_, _*_, _<_, _≤_, _^_};
+ghost use lib.ListN.{drop};
+ghost use Rattle.mdp.specs.Sums.{sum};
+ghost use Rattle.folder.specs.Scan.{firstBad};
+ghost use Rattle.folder.specs.Contents.{body, countOf, field};
+ghost use Rattle.folder.specs.Table.{outcome};
+ghost use Rattle.expressions.specs.Entries.{entriesOf};
+ghost use Rattle.expressions.specs.Ranges.{boundIn};
+ghost use Rattle.ranges.specs.Settled.{Settled};
+ghost use Rattle.model.specs.Layout.{select, variableCount, branchSize, recordSize, recordCount};
+ghost use Rattle.model.specs.Model.{modelOf, firstRecord};
+ghost use Rattle.model.specs.Bodies.{modelIn, staysIn};
+ghost use Rattle.model.specs.Rules.{bytesFit, recordsFit, variableFits, termsFit, commandFits, recordsAddUp, assignedFits, branchFits, weightsTotal};
+ghost use Rattle.model.specs.Table.{folderRows, contentRows, modelOutcome};
+ghost use Rattle.model.specs.Valid.{FolderRight};
+ghost use Rattle.model.specs.View.{isAccepted, recordThere, viewStart, viewPart};
+use folder::Outcome;
+
+// A value for each body.
+fn select(
+    e: usize,
+    terms: usize,
+    variables: usize,
+    expressions: usize,
+    commands: usize,
+    branches: usize,
+) -> usize
+    ensures { λ r. ⌜ r ≡ select e terms variables expressions commands branches ⌝ }
+{
+    match e {
+        0 => terms,
+        1 => variables,
+        2 => expressions,
+        3 => commands,
+        _ => branches,
+    }
+}
+
+pub fn variable_count(m: &[u8]) -> usize
+    ensures { λ r. ⌜ (r ≡ variableCount (now (m .entry))) × (r < 2 ^ 62) ⌝ }
+{
+    folder::count_of(6, folder::body(m, 1))
+}
+
+pub fn record_size(m: &[u8], e: usize) -> usize
+    requires { ⌜ e < 5 ⌝ }
+    ensures { λ r. ⌜ (r ≡ recordSize (now (m .entry)) e) × (0 < r) ⌝ }
+{
+    select(e, 4, 6, 8, 4, 2 + 2 * variable_count(m))
+}
+
+pub fn record_count(m: &[u8], e: usize) -> usize
+    requires { ⌜ e < 5 ⌝ }
+    ensures { λ r. ⌜ r ≡ recordCount (now (m .entry)) e ⌝ }
+{
+    folder::count_of(record_size(m, e), folder::body(m, e))
+}
+
+// Row 1.
+fn bytes_fit(m: &[u8]) -> bool
+    ensures { λ r. ⌜ r ≡ bytesFit (now (m .entry)) ⌝ }
+{
+    (40 <= m.len()) & (m.len() <= 40000)
+}
+
+// Row 3, body e.
+fn records_fit(m: &[u8], e: usize) -> bool
+    requires { ⌜ e < 5 ⌝ }
+    ensures { λ r. ⌜ r ≡ recordsFit (now (m .entry)) e ⌝ }
+{
+    let size = record_size(m, e);
+    let b = folder::body(m, e);
+    let n = folder::count_of(size, b);
+    ((b.len() % size == 0) & (1 <= n)) & (n <= select(e, 1, 16, 512, 64, 1024))
+}
+
+fn first_bad_records(m: &[u8]) -> usize
+    ensures { λ r. ⌜ r ≡ firstBad (recordsFit (now (m .entry))) 5 ⌝ }
+{
+    let mut e = 0;
+    while e < 5 {
+        if records_fit(m, e) {
+            e += 1;
+        } else {
+            return e;
+        }
+    }
+    e
+}
+
+// Row 4, variable v of the variable body y.
+fn variable_fits(y: &[u8], v: usize) -> bool
+    requires { ⌜ v ≤ 65536 ⌝ }
+    ensures { λ r. ⌜ r ≡ variableFits (modelIn [] (now (y .entry)) [] [] []) v ⌝ }
+{
+    let low = folder::signed_field(6, y, v, 0);
+    let high = folder::signed_field(6, y, v, 1);
+    let initial = folder::signed_field(6, y, v, 2);
+    (low <= high) & (((-30000 <= low) & (high <= 30000)) & ((low <= initial) & (initial <= high)))
+}
+
+fn first_bad_variable(m: &[u8], n: usize) -> usize
+    requires { ⌜ n ≤ 65536 ⌝ }
+    ensures { λ r. ⌜ r ≡ firstBad (variableFits (modelOf (now (m .entry)))) n ⌝ }
+{
+    let y = folder::body(m, 1);
+    let mut v = 0;
+    while v < n {
+        if variable_fits(y, v) {
+            v += 1;
+        } else {
+            return v;
+        }
+    }
+    v
+}
+
+// Row 7, place p, by the term body t and the expression body x.
+fn terms_fit(t: &[u8], x: &[u8], p: usize) -> bool
+    ensures { λ r. ⌜ r ≡ termsFit (modelIn (now (t .entry)) [] (now (x .entry)) [] []) p ⌝ }
+{
+    let total = folder::field(4, t, 0, 0);
+    let target = folder::field(4, t, 0, 1);
+    ((p != 0) | (total != 0)) & ((p != 1) | expressions::is_truth(x, target))
+}
+
+fn first_bad_term(m: &[u8]) -> usize
+    ensures { λ r. ⌜ r ≡ firstBad (termsFit (modelOf (now (m .entry)))) 2 ⌝ }
+{
+    let t = folder::body(m, 0);
+    let x = folder::body(m, 2);
+    let mut p = 0;
+    while p < 2 {
+        if terms_fit(t, x, p) {
+            p += 1;
+        } else {
+            return p;
+        }
+    }
+    p
+}
+
+// Row 8, command c of the command body k.
+fn command_fits(x: &[u8], k: &[u8], c: usize) -> bool
+    requires { ⌜ c ≤ 65536 ⌝ }
+    ensures { λ r. ⌜ r ≡ commandFits (modelIn [] [] (now (x .entry)) (now (k .entry)) []) c ⌝ }
+{
+    let guard = folder::field(4, k, c, 0);
+    let branches = folder::field(4, k, c, 1);
+    expressions::is_truth(x, guard) & ((1 <= branches) & (branches <= 16))
+}
+
+fn first_bad_command(m: &[u8], n: usize) -> usize
+    requires { ⌜ n ≤ 65536 ⌝ }
+    ensures { λ r. ⌜ r ≡ firstBad (commandFits (modelOf (now (m .entry)))) n ⌝ }
+{
+    let x = folder::body(m, 2);
+    let k = folder::body(m, 3);
+    let mut c = 0;
+    while c < n {
+        if command_fits(x, k, c) {
+            c += 1;
+        } else {
+            return c;
+        }
+    }
+    c
+}
+
+// The first branch record of command n, by the command body k.
+fn first_record(k: &[u8], n: usize) -> usize
+    requires { ⌜ n ≤ 65536 ⌝ }
+    ensures { λ r. ⌜ r ≡ firstRecord (modelIn [] [] [] (now (k .entry)) []) n ⌝ }
+{
+    let mut sum = 0;
+    let mut c = 0;
+    while c < n {
+        sum += folder::field(4, k, c, 1);
+        c += 1;
+    }
+    sum
+}
+
+// Row 9.
+fn records_add_up(m: &[u8]) -> bool
+    requires { ⌜ countOf 4 (body (now m) 3) ≤ 65536 ⌝ }
+    ensures { λ r. ⌜ r ≡ recordsAddUp (modelOf (now (m .entry))) ⌝ }
+{
+    let k = folder::body(m, 3);
+    record_count(m, 4) == first_record(k, folder::count_of(4, k))
+}
+
+// Entry e is a number, and its range, which the rows hold, stays in that of variable v.
+fn stays_in(x: &[u8], y: &[u8], lows: &[i64], highs: &[i64], e: usize, v: usize) -> bool
+    requires { ⌜ Settled (now x) (now y) (now lows) (now highs) (countOf 8 (now x)) ⌝ }
+    requires { ⌜ (e ≤ 65536) × (v ≤ 65536) ⌝ }
+    ensures { λ r. ⌜ r ≡ staysIn (entriesOf (now (x .entry))) (boundIn (now (y .entry))) e v ⌝ }
+{
+    if expressions::is_number(x, e) {
+        let to = ranges::bound_at(y, v);
+        ranges::is_inside(lows[e], highs[e], to.low, to.high)
+    } else {
+        false
+    }
+}
+
+// The lowest of the n variables whose assigned entry in branch record r does not fit, or n.
+fn first_bad_assigned(
+    x: &[u8],
+    y: &[u8],
+    b: &[u8],
+    lows: &[i64],
+    highs: &[i64],
+    r: usize,
+    n: usize,
+) -> usize
+    requires { ⌜ Settled (now x) (now y) (now lows) (now highs) (countOf 8 (now x)) ⌝ }
+    requires { ⌜ (n ≡ countOf 6 (now y)) × (n ≤ 16) × (r ≤ 65536) ⌝ }
+    ensures { λ p. ⌜ p ≡ firstBad (assignedFits (modelIn [] (now (y .entry)) (now (x .entry)) [] (now (b .entry))) r) n ⌝ }
+{
+    let size = 2 + 2 * n;
+    let mut v = 0;
+    while v < n {
+        let e = folder::field(size, b, r, 1 + v);
+        if stays_in(x, y, lows, highs, e, v) {
+            v += 1;
+        } else {
+            return v;
+        }
+    }
+    v
+}
+
+// Row 10, branch record r of the branch body b, over n variables.
+fn branch_fits(
+    x: &[u8],
+    y: &[u8],
+    b: &[u8],
+    lows: &[i64],
+    highs: &[i64],
+    r: usize,
+    n: usize,
+) -> bool
+    requires { ⌜ Settled (now x) (now y) (now lows) (now highs) (countOf 8 (now x)) ⌝ }
+    requires { ⌜ (n ≡ countOf 6 (now y)) × (n ≤ 16) × (r ≤ 65536) ⌝ }
+    ensures { λ p. ⌜ p ≡ branchFits (modelIn [] (now (y .entry)) (now (x .entry)) [] (now (b .entry))) r ⌝ }
+{
+    let weight = folder::field(2 + 2 * n, b, r, 0);
+    (weight != 0) & (first_bad_assigned(x, y, b, lows, highs, r, n) == n)
+}
+
+fn first_bad_branch(m: &[u8], lows: &[i64], highs: &[i64], n: usize) -> usize
+    requires { ⌜ Settled (body (now m) 2) (body (now m) 1) (now lows) (now highs) (countOf 8 (body (now m) 2)) ⌝ }
+    requires { ⌜ (variableCount (now m) ≤ 16) × (n ≤ 65536) ⌝ }
+    ensures { λ r. ⌜ r ≡ firstBad (branchFits (modelOf (now (m .entry)))) n ⌝ }
+{
+    let x = folder::body(m, 2);
+    let y = folder::body(m, 1);
+    let b = folder::body(m, 4);
+    let variables = folder::count_of(6, y);
+    let mut r = 0;
+    while r < n {
+        if branch_fits(x, y, b, lows, highs, r, variables) {
+            r += 1;
+        } else {
+            return r;
+        }
+    }
+    r
+}
+
+// The sum of the weights of n branch records from `first` on.
+fn weight_sum(size: usize, b: &[u8], first: usize, n: usize) -> usize
+    requires { ⌜ (size ≤ 65536) × (first + n ≤ 65536) ⌝ }
+    ensures { λ r. ⌜ r ≡ sum n (λ i _. field size (now (b .entry)) (first + i) 0) ⌝ }
+{
+    let mut sum = 0;
+    let mut i = 0;
+    while i < n {
+        sum += folder::field(size, b, first + i, 0);
+        i += 1;
+    }
+    sum
+}
+
+// Row 11: `at` walks the branch records with the commands.
+fn first_bad_total(m: &[u8], n: usize) -> usize
+    requires { ⌜ (variableCount (now m) ≤ 16) × (n ≤ 65536) × (firstRecord (modelOf (now m)) n ≤ 65536) ⌝ }
+    ensures { λ r. ⌜ r ≡ firstBad (weightsTotal (modelOf (now (m .entry)))) n ⌝ }
+{
+    let total = folder::field(4, folder::body(m, 0), 0, 0);
+    let size = 2 + 2 * variable_count(m);
+    let k = folder::body(m, 3);
+    let b = folder::body(m, 4);
+    let mut c = 0;
+    let mut at = 0;
+    while c < n {
+        let branches = folder::field(4, k, c, 1);
+        if weight_sum(size, b, at, branches) == total {
+            at += branches;
+            c += 1;
+        } else {
+            return c;
+        }
+    }
+    c
+}
+
+// Rows 1 to 3: the bytes are a folder of five bodies of records.
+pub fn check_folder(m: &[u8]) -> Outcome
+    ensures { λ r. ⌜ r ≡ outcome (folderRows (now (m .entry))) ⌝ }
+{
+    let p1 = folder::only_place(bytes_fit(m));
+    if p1 < 1 {
+        return folder::refuse(1, 0);
+    }
+    let p2 = folder::first_bad_entry(m, 5);
+    if p2 < 5 {
+        return folder::refuse(2, p2);
+    }
+    let p3 = first_bad_records(m);
+    if p3 < 5 {
+        return folder::refuse(3, p3);
+    }
+    Outcome::Accepted
+}
+
+// Rows 9 to 11 of a model whose folder rows hold. The rows `lows` and `highs` hold the ranges of its entries.
+fn check_branches(m: &[u8], lows: &[i64], highs: &[i64]) -> Outcome
+    requires { ⌜ FolderRight (now m) ⌝ }
+    requires { ⌜ Settled (body (now m) 2) (body (now m) 1) (now lows) (now highs) (countOf 8 (body (now m) 2)) ⌝ }
+    ensures { λ r. ⌜ r ≡ outcome (drop 5 (contentRows (modelOf (now (m .entry))))) ⌝ }
+{
+    let p9 = folder::only_place(records_add_up(m));
+    if p9 < 1 {
+        return folder::refuse(9, 0);
+    }
+    let records = record_count(m, 4);
+    let p10 = first_bad_branch(m, lows, highs, records);
+    if p10 < records {
+        return folder::refuse(10, p10);
+    }
+    let commands = record_count(m, 3);
+    let p11 = first_bad_total(m, commands);
+    if p11 < commands {
+        return folder::refuse(11, p11);
+    }
+    Outcome::Accepted
+}
+
+// Rows 7 and 8, and those after them.
+fn check_commands(m: &[u8], lows: &[i64], highs: &[i64]) -> Outcome
+    requires { ⌜ FolderRight (now m) ⌝ }
+    requires { ⌜ Settled (body (now m) 2) (body (now m) 1) (now lows) (now highs) (countOf 8 (body (now m) 2)) ⌝ }
+    ensures { λ r. ⌜ r ≡ outcome (drop 3 (contentRows (modelOf (now (m .entry))))) ⌝ }
+{
+    let p7 = first_bad_term(m);
+    if p7 < 2 {
+        return folder::refuse(7, p7);
+    }
+    let commands = record_count(m, 3);
+    let p8 = first_bad_command(m, commands);
+    if p8 < commands {
+        return folder::refuse(8, p8);
+    }
+    check_branches(m, lows, highs)
+}
+
+// Rows 4 to 6, and those after them. Row 6 works out the range of each entry once, for row 10 too.
+fn check_entries(m: &[u8]) -> Outcome
+    requires { ⌜ FolderRight (now m) ⌝ }
+    ensures { λ r. ⌜ r ≡ outcome (contentRows (modelOf (now (m .entry)))) ⌝ }
+{
+    let variables = variable_count(m);
+    let p4 = first_bad_variable(m, variables);
+    if p4 < variables {
+        return folder::refuse(4, p4);
+    }
+    let x = folder::body(m, 2);
+    let entries = folder::count_of(8, x);
+    let p5 = entries::first_bad_entry(x, variables);
+    if p5 < entries {
+        return folder::refuse(5, p5);
+    }
+    let y = folder::body(m, 1);
+    let mut lows = [0i64; 512];
+    let mut highs = [0i64; 512];
+    let p6 = ranges::fill_ranges(x, y, &mut lows, &mut highs);
+    if p6 < entries {
+        return folder::refuse(6, p6);
+    }
+    check_commands(m, &lows, &highs)
+}
+
+// The model check: acceptance, or the first refusal of document 01's table.
+pub fn check_model(m: &[u8]) -> Outcome
+    ensures { λ r. ⌜ r ≡ modelOutcome (now (m .entry)) ⌝ }
+{
+    let o = check_folder(m);
+    match o {
+        Outcome::Accepted => check_entries(m),
+        Outcome::Refused(f) => Outcome::Refused(f),
+    }
+}
+
+fn is_accepted(o: Outcome) -> bool
+    ensures { λ r. ⌜ r ≡ isAccepted o ⌝ }
+{
+    match o {
+        Outcome::Accepted => true,
+        Outcome::Refused(_) => false,
+    }
+}
+
+fn record_there(m: &[u8], e: usize, i: usize) -> bool
+    ensures { λ r. ⌜ r ≡ recordThere (now (m .entry)) e i ⌝ }
+{
+    if e < 5 {
+        is_accepted(check_folder(m)) & (i < record_count(m, e))
+    } else {
+        false
+    }
+}
+
+// The view: record i of body e, as a part of the folder. Where there is none, the empty part at its start.
+pub fn record_part(m: &[u8], e: usize, i: usize) -> &[u8]
+    ensures { λ r. ⌜ now r ≡ viewPart (now (m .entry)) e i ⌝ }
+    ensures { λ r. ⌜ r .ptr ≡ (m .entry .ptr .0, viewStart (now (m .entry)) e i + m .entry .ptr .1) ⌝ }
+{
+    if record_there(m, e, i) {
+        let size = record_size(m, e);
+        let at = folder::start_of(m, e) + size * i;
+        &m[at..at + size]
+    } else {
+        &m[..0]
+    }
+}
