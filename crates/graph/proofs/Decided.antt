@@ -69,10 +69,10 @@ reads-decided (Known a) z = reworded (ap Known) (λ e. cc) (equal-decided a z)
 reads-decided Open z = record { yes = λ e. absurd (false≢true e); no = λ e. cc }
 
 -- ---- rows 12 to 17
-bytes-decided : (g : List ℕ) → Decides ((leastBytes ≤ length g) × (length g ≤ mostBytes)) (bytesFit g)
+pub bytes-decided : (g : List ℕ) → Decides ((leastBytes ≤ length g) × (length g ≤ mostBytes)) (bytesFit g)
 bytes-decided g = at-most leastBytes (length g) ∧also at-most (length g) mostBytes
 
-nodes-decided : (M : Model) (g : List ℕ)
+pub nodes-decided : (M : Model) (g : List ℕ)
     → Decides (((length (body g 0) % nodeSize (M .variables) ≡ 0) × (1 ≤ nodeCount M g)) × (nodeCount M g ≤ mostNodes)) (nodesFit M g)
 unfolding nodesFit
 nodes-decided M g =
@@ -94,7 +94,7 @@ module _ (M : Model) (G : Simulation) where
       (at-mostZ (M .low v) (G .concrete n v) ∧also at-mostZ (G .concrete n v) (M .high v))
       ∧also whenever (fails (tracks G n v)) (equal-decided (G .label n v) (pos 0))
 
-  node-decided : (n : ℕ) → Decides (NodeRight M G n) (nodeFits M G n)
+  pub node-decided : (n : ℕ) → Decides (NodeRight M G n) (nodeFits M G n)
   unfolding nodeFits
   node-decided n = reworded
       (λ h. record {
@@ -117,12 +117,12 @@ module _ (M : Model) (G : Simulation) where
       ((below (G .command n e) (M .commands) ∧also passes (G .whole n e))
       ∧also everywhere (M .branches (G .command n e)) (λ b l. below (G .successor n e b) (G .nodes)))
 
-  edges-decided : (n : ℕ)
+  pub edges-decided : (n : ℕ)
       → Decides ((n < G .nodes → (e : ℕ) → e < G .edges n → EdgeRight M G n e) × ((n < G .nodes → ⊥) → G .spent ≡ true)) (edgesFit M G n)
   unfolding edgesFit
   edges-decided n = either-way (below n (G .nodes)) (everywhere (G .edges n) (λ e l. edge-decided n e)) (passes (G .spent))
 
-  root-decided : Decides (StartsInitial M G) (rootFits M G)
+  pub root-decided : Decides (StartsInitial M G) (rootFits M G)
   unfolding rootFits
   root-decided = reworded
       (tab-same (M .variables) (G .concrete 0) (M .initial))
@@ -241,7 +241,7 @@ module _ (M : Model) (G : Simulation) where
         ),
       ))
 
-folder-asks : (M : Model) (g : List ℕ) → AllHold (folderRows M g) ↔ FolderRight M g
+pub folder-asks : (M : Model) (g : List ℕ) → AllHold (folderRows M g) ↔ FolderRight M g
 folder-asks M g = put-so
     (single-asks 12 0 (bytes-decided g) row-and row-asks _ (contents-decided g bodies) row-and single-asks 14 0 (nodes-decided M g) row-and no-rows)
     (λ h. record { long = h .0 .0; short = h .0 .1; contents = h .1 .0; whole = h .1 .1 .0 .0 .0; some = h .1 .1 .0 .0 .1; few = h .1 .1 .0 .1 })
