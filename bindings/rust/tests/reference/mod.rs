@@ -1,0 +1,807 @@
+//! Document 01 in plain Rust: the calls, with every refusal. It rests on the paper
+//! alone and shares no code with the checker.
+//!
+//! Every input is answered, whatever its content and length. Entries are shared
+//! between expressions, so depths, ranges and readings are filled upward, once
+//! per entry.
+#![allow(dead_code)]
+
+use laguipy::{Refusal, Summary};
+use std::ops::{Range, RangeInclusive};
+
+/// Certainty, in units.
+pub const CERTAIN: u32 = 1_000_000_000;
+
+const MODEL_BYTES: RangeInclusive<usize> = 40..=40_000;
+const GRAPH_BYTES: RangeInclusive<usize> = 16..=1_048_576;
+const VARIABLES: RangeInclusive<usize> = 1..=16;
+const ENTRIES: RangeInclusive<usize> = 1..=512;
+const COMMANDS: RangeInclusive<usize> = 1..=64;
+const BRANCH_RECORDS: RangeInclusive<usize> = 1..=1_024;
+const BRANCHES_OF_A_COMMAND: RangeInclusive<usize> = 1..=16;
+const NODES: RangeInclusive<usize> = 1..=4_096;
+const BOUNDS: RangeInclusive<i16> = -30_000..=30_000;
+const NUMBERS: RangeInclusive<i64> = -1_000_000..=1_000_000;
+const DEPTH: u32 = 12;
+const STEPS: usize = 10_000;
+
+type Checked<T> = Result<T, Refusal>;
+
+fn refuse<T>(number: u32, place: usize) -> Checked<T> {
+    Err(Refusal { number, place })
+}
+
+fn ensure(holds: bool, number: u32, place: usize) -> Checked<()> {
+    if holds {
+        Ok(())
+    } else {
+        refuse(number, place)
+    }
+}
+
+// ------------------------------------------------------------------- folders
+
+fn words(bytes: &[u8]) -> impl Iterator<Item = u16> + '_ {
+    bytes.chunks_exact(2).map(|b| u16::from_le_bytes([b[0], b[1]]))
+}
+
+fn signed(bytes: &[u8]) -> impl Iterator<Item = i16> + '_ {
+    words(bytes).map(|w| w as i16)
+}
+
+fn double_word(bytes: &[u8]) -> u32 {
+    u32::from_le_bytes([bytes[0], bytes[1], bytes[2], bytes[3]])
+}
+
+/// The bodies of a folder that is at least as long as its table of contents.
+fn bodies<const N: usize>(folder: &[u8], number: u32) -> Checked<[&[u8]; N]> {
+    let length = folder.len() as u64;
+    let mut bodies = [&folder[..0]; N];
+    let mut expected = 8 * N as u64;
+    for entry in 0..N {
+        let start = u64::from(double_word(&folder[8 * entry..]));
+        let end = start + u64::from(double_word(&folder[8 * entry + 4..]));
+        let last = entry == N - 1;
+        ensure(start == expected && end <= length && (!last || end == length), number, entry)?;
+        bodies[entry] = &folder[start as usize..end as usize];
+        expected = end;
+    }
+    Ok(bodies)
+}
+
+// -------------------------------------------------------------------- models
+
+#[derive(Clone, Copy)]
+struct Variable {
+    low: i16,
+    high: i16,
+    initial: i16,
+}
+
+impl Variable {
+    fn holds(&self, value: i16) -> bool {
+        (self.low..=self.high).contains(&value)
+    }
+}
+
+/// An entry; its parts are the numbers of lower entries.
+#[derive(Clone, Copy)]
+enum Entry {
+    Constant(i16),
+    Variable(usize),
+    Add(usize, usize),
+    Subtract(usize, usize),
+    Multiply(usize, usize),
+    Smaller(usize, usize),
+    Larger(usize, usize),
+    If(usize, usize, usize),
+    Equal(usize, usize),
+    Less(usize, usize),
+    AtMost(usize, usize),
+    Not(usize),
+    And(usize, usize),
+    Or(usize, usize),
+    True,
+}
+
+impl Entry {
+    fn is_number(&self) -> bool {
+        use Entry::*;
+        matches!(
+            self,
+            Constant(_)
+                | Variable(_)
+                | Add(..)
+                | Subtract(..)
+                | Multiply(..)
+                | Smaller(..)
+                | Larger(..)
+                | If(..)
+        )
+    }
+
+    /// The entry that a record stands for, if it is a right one above `lower`.
+    fn parse(record: [u16; 4], lower: &[Entry], variables: usize) -> Option<Entry> {
+        let [operation, a, b, c] = record;
+        let part = |field: u16, number: bool| {
+            let part = usize::from(field);
+            (lower.get(part)?.is_number() == number).then_some(part)
+        };
+        let number = |field| part(field, true);
+        let truth = |field| part(field, false);
+        let (entry, unused) = match operation {
+            0 => (Entry::Constant(a as i16), [b, c]),
+            1 => {
+                let variable = usize::from(a);
+                if variable >= variables {
+                    return None;
+                }
+                (Entry::Variable(variable), [b, c])
+            }
+            2 => (Entry::Add(number(a)?, number(b)?), [c, 0]),
+            3 => (Entry::Subtract(number(a)?, number(b)?), [c, 0]),
+            4 => (Entry::Multiply(number(a)?, number(b)?), [c, 0]),
+            5 => (Entry::Smaller(number(a)?, number(b)?), [c, 0]),
+            6 => (Entry::Larger(number(a)?, number(b)?), [c, 0]),
+            7 => (Entry::If(truth(a)?, number(b)?, number(c)?), [0, 0]),
+            8 => (Entry::Equal(number(a)?, number(b)?), [c, 0]),
+            9 => (Entry::Less(number(a)?, number(b)?), [c, 0]),
+            10 => (Entry::AtMost(number(a)?, number(b)?), [c, 0]),
+            11 => (Entry::Not(truth(a)?), [b, c]),
+            12 => (Entry::And(truth(a)?, truth(b)?), [c, 0]),
+            13 => (Entry::Or(truth(a)?, truth(b)?), [c, 0]),
+            14 if a == 0 => (Entry::True, [b, c]),
+            _ => return None,
+        };
+        (unused == [0, 0]).then_some(entry)
+    }
+
+    /// A leaf has depth 1, any other entry one more than its deepest part.
+    fn depth(&self, lower: &[u32]) -> u32 {
+        use Entry::*;
+        match *self {
+            Constant(_) | Variable(_) | True => 1,
+            Not(a) => 1 + lower[a],
+            If(a, b, c) => 1 + lower[a].max(lower[b]).max(lower[c]),
+            Add(a, b)
+            | Subtract(a, b)
+            | Multiply(a, b)
+            | Smaller(a, b)
+            | Larger(a, b)
+            | Equal(a, b)
+            | Less(a, b)
+            | AtMost(a, b)
+            | And(a, b)
+            | Or(a, b) => 1 + lower[a].max(lower[b]),
+        }
+    }
+
+    /// The range of a number, from those of its parts; a truth has none.
+    fn range(&self, lower: &[Option<Span>], variables: &[Variable]) -> Option<Span> {
+        use Entry::*;
+        let both = |a: usize, b: usize| Some((lower[a]?, lower[b]?));
+        Some(match *self {
+            Constant(c) => Span::new(c, c),
+            Variable(v) => Span::new(variables[v].low, variables[v].high),
+            Add(a, b) => {
+                let (a, b) = both(a, b)?;
+                Span { low: a.low + b.low, high: a.high + b.high }
+            }
+            Subtract(a, b) => {
+                let (a, b) = both(a, b)?;
+                Span { low: a.low - b.high, high: a.high - b.low }
+            }
+            Multiply(a, b) => {
+                let (a, b) = both(a, b)?;
+                let ends = [a.low * b.low, a.low * b.high, a.high * b.low, a.high * b.high];
+                let (low, high) =
+                    ends.iter().fold((ends[0], ends[0]), |(low, high), &end| (low.min(end), high.max(end)));
+                Span { low, high }
+            }
+            Smaller(a, b) => {
+                let (a, b) = both(a, b)?;
+                Span { low: a.low.min(b.low), high: a.high.min(b.high) }
+            }
+            Larger(a, b) => {
+                let (a, b) = both(a, b)?;
+                Span { low: a.low.max(b.low), high: a.high.max(b.high) }
+            }
+            If(_, a, b) => {
+                let (a, b) = both(a, b)?;
+                Span { low: a.low.min(b.low), high: a.high.max(b.high) }
+            }
+            Equal(..) | Less(..) | AtMost(..) | Not(_) | And(..) | Or(..) | True => return None,
+        })
+    }
+}
+
+/// Where a number lies.
+#[derive(Clone, Copy)]
+struct Span {
+    low: i64,
+    high: i64,
+}
+
+impl Span {
+    fn new(low: i16, high: i16) -> Span {
+        Span { low: low.into(), high: high.into() }
+    }
+
+    fn within(&self, bounds: &RangeInclusive<i64>) -> bool {
+        *bounds.start() <= self.low && self.high <= *bounds.end()
+    }
+}
+
+/// What an entry reads as.
+#[derive(Clone, Copy, Debug, PartialEq, Eq)]
+enum Reading {
+    Unknown,
+    Number(i32),
+    Truth(bool),
+}
+
+struct Command {
+    guard: usize,
+    /// Of each branch.
+    weights: Vec<u32>,
+    /// Of each branch, an entry per variable.
+    assigned: Vec<Vec<usize>>,
+}
+
+struct Model {
+    total: u32,
+    target: usize,
+    variables: Vec<Variable>,
+    entries: Vec<Entry>,
+    commands: Vec<Command>,
+}
+
+/// The model folder cut into its bodies, with the length of a record of each:
+/// rows 1 to 3.
+fn model_bodies(folder: &[u8]) -> Checked<[(&[u8], usize); 5]> {
+    ensure(MODEL_BYTES.contains(&folder.len()), 1, 0)?;
+    let [terms, variables, entries, commands, branches] = bodies::<5>(folder, 2)?;
+    let cut = |entry, body: &[u8], record: usize, limits: RangeInclusive<usize>| {
+        let whole = body.len().is_multiple_of(record);
+        ensure(whole && limits.contains(&(body.len() / record)), 3, entry)
+    };
+    cut(0, terms, 4, 1..=1)?;
+    cut(1, variables, 6, VARIABLES)?;
+    cut(2, entries, 8, ENTRIES)?;
+    cut(3, commands, 4, COMMANDS)?;
+    let branch = 2 + 2 * (variables.len() / 6);
+    cut(4, branches, branch, BRANCH_RECORDS)?;
+    Ok([(terms, 4), (variables, 6), (entries, 8), (commands, 4), (branches, branch)])
+}
+
+impl Model {
+    /// Rows 1 to 11.
+    fn parse(folder: &[u8]) -> Checked<Model> {
+        let [terms, variables, entries, commands, branches] = model_bodies(folder)?;
+
+        let variables: Vec<Variable> = variables
+            .0
+            .chunks_exact(6)
+            .map(|record| {
+                let mut fields = signed(record);
+                let mut next = || fields.next().unwrap_or(0);
+                Variable { low: next(), high: next(), initial: next() }
+            })
+            .collect();
+        for (place, variable) in variables.iter().enumerate() {
+            let right = variable.low <= variable.high
+                && BOUNDS.contains(&variable.low)
+                && BOUNDS.contains(&variable.high)
+                && variable.holds(variable.initial);
+            ensure(right, 4, place)?;
+        }
+
+        let entries = Model::parse_entries(entries.0, variables.len())?;
+        let ranges = Model::ranges(&entries, &variables)?;
+        let is_truth = |entry: usize| entries.get(entry).is_some_and(|e| !e.is_number());
+
+        let mut fields = words(terms.0);
+        let total = u32::from(fields.next().unwrap_or(0));
+        let target = usize::from(fields.next().unwrap_or(0));
+        ensure(total != 0, 7, 0)?;
+        ensure(is_truth(target), 7, 1)?;
+
+        let mut guards = Vec::new();
+        for (place, record) in commands.0.chunks_exact(4).enumerate() {
+            let mut fields = words(record).map(usize::from);
+            let guard = fields.next().unwrap_or(0);
+            let count = fields.next().unwrap_or(0);
+            ensure(is_truth(guard) && BRANCHES_OF_A_COMMAND.contains(&count), 8, place)?;
+            guards.push((guard, count));
+        }
+
+        let (branches, record) = branches;
+        let counted: usize = guards.iter().map(|&(_, count)| count).sum();
+        ensure(counted == branches.len() / record, 9, 0)?;
+
+        let mut weights = Vec::new();
+        let mut assigned = Vec::new();
+        for (place, record) in branches.chunks_exact(record).enumerate() {
+            let weight = u32::from(words(record).next().unwrap_or(0));
+            let entries: Vec<usize> = words(record).skip(1).map(usize::from).collect();
+            let fits = |(&entry, variable): (&usize, &Variable)| {
+                let bounds = i64::from(variable.low)..=i64::from(variable.high);
+                matches!(ranges.get(entry), Some(Some(range)) if range.within(&bounds))
+            };
+            ensure(weight != 0 && entries.iter().zip(&variables).all(fits), 10, place)?;
+            weights.push(weight);
+            assigned.push(entries);
+        }
+
+        let mut commands = Vec::new();
+        let (mut weights, mut assigned) = (weights.into_iter(), assigned.into_iter());
+        for (place, (guard, count)) in guards.into_iter().enumerate() {
+            let weights: Vec<u32> = weights.by_ref().take(count).collect();
+            let assigned = assigned.by_ref().take(count).collect();
+            ensure(weights.iter().sum::<u32>() == total, 11, place)?;
+            commands.push(Command { guard, weights, assigned });
+        }
+        Ok(Model { total, target, variables, entries, commands })
+    }
+
+    /// Row 5.
+    fn parse_entries(body: &[u8], variables: usize) -> Checked<Vec<Entry>> {
+        let mut entries = Vec::new();
+        let mut depths = Vec::new();
+        for (place, record) in body.chunks_exact(8).enumerate() {
+            let mut fields = words(record);
+            let record = [(); 4].map(|_| fields.next().unwrap_or(0));
+            let Some(entry) = Entry::parse(record, &entries, variables) else {
+                return refuse(5, place);
+            };
+            let depth = entry.depth(&depths);
+            ensure(depth <= DEPTH, 5, place)?;
+            entries.push(entry);
+            depths.push(depth);
+        }
+        Ok(entries)
+    }
+
+    /// Row 6.
+    fn ranges(entries: &[Entry], variables: &[Variable]) -> Checked<Vec<Option<Span>>> {
+        let mut ranges = Vec::new();
+        for (place, entry) in entries.iter().enumerate() {
+            let range = entry.range(&ranges, variables);
+            ensure(range.is_none_or(|range| range.within(&NUMBERS)), 6, place)?;
+            ranges.push(range);
+        }
+        Ok(ranges)
+    }
+
+    /// Fills the table with the reading of every entry, where a variable reads as
+    /// given, or is unknown. Values given are in their variables' ranges, so every
+    /// number is in its own.
+    fn read(&self, variable: impl Fn(usize) -> Option<i16>, table: &mut Vec<Reading>) {
+        use Reading::{Number, Truth, Unknown};
+        fn number(a: Reading, b: Reading, operation: impl Fn(i32, i32) -> i32) -> Reading {
+            match (a, b) {
+                (Number(a), Number(b)) => Number(operation(a, b)),
+                _ => Unknown,
+            }
+        }
+        fn truth(a: Reading, b: Reading, comparison: impl Fn(&i32, &i32) -> bool) -> Reading {
+            match (a, b) {
+                (Number(a), Number(b)) => Truth(comparison(&a, &b)),
+                _ => Unknown,
+            }
+        }
+        table.clear();
+        for entry in &self.entries {
+            let reading = match *entry {
+                Entry::Constant(c) => Number(c.into()),
+                Entry::Variable(v) => variable(v).map_or(Unknown, |value| Number(value.into())),
+                Entry::Add(a, b) => number(table[a], table[b], |a, b| a + b),
+                Entry::Subtract(a, b) => number(table[a], table[b], |a, b| a - b),
+                Entry::Multiply(a, b) => number(table[a], table[b], |a, b| a * b),
+                Entry::Smaller(a, b) => number(table[a], table[b], i32::min),
+                Entry::Larger(a, b) => number(table[a], table[b], i32::max),
+                Entry::If(a, b, c) => match (table[a], table[b], table[c]) {
+                    (Truth(truth), Number(b), Number(c)) => Number(if truth { b } else { c }),
+                    _ => Unknown,
+                },
+                Entry::Equal(a, b) => truth(table[a], table[b], i32::eq),
+                Entry::Less(a, b) => truth(table[a], table[b], i32::lt),
+                Entry::AtMost(a, b) => truth(table[a], table[b], i32::le),
+                Entry::Not(a) => match table[a] {
+                    Truth(truth) => Truth(!truth),
+                    _ => Unknown,
+                },
+                Entry::And(a, b) => match (table[a], table[b]) {
+                    (Truth(false), _) | (_, Truth(false)) => Truth(false),
+                    (Truth(true), Truth(true)) => Truth(true),
+                    _ => Unknown,
+                },
+                Entry::Or(a, b) => match (table[a], table[b]) {
+                    (Truth(true), _) | (_, Truth(true)) => Truth(true),
+                    (Truth(false), Truth(false)) => Truth(false),
+                    _ => Unknown,
+                },
+                Entry::True => Truth(true),
+            };
+            table.push(reading);
+        }
+    }
+}
+
+// -------------------------------------------------------------------- graphs
+
+#[derive(Clone, Copy, PartialEq, Eq)]
+enum Kind {
+    Waiting,
+    Expanded,
+    Covered,
+    Target,
+}
+
+struct Node {
+    kind: Kind,
+    cover: usize,
+    value: u32,
+    tracked: u16,
+    concrete: Vec<i16>,
+    label: Vec<i16>,
+    edges: Range<usize>,
+}
+
+impl Node {
+    /// The label's value of a variable, if it is tracked.
+    fn label(&self, variable: usize) -> Option<i16> {
+        (self.tracked >> variable & 1 == 1).then(|| self.label[variable])
+    }
+
+    /// Whether the label contains a state.
+    fn contains(&self, state: &[i16]) -> bool {
+        state.iter().enumerate().all(|(v, &value)| self.label(v).is_none_or(|label| label == value))
+    }
+}
+
+struct Edge {
+    command: usize,
+    successors: Range<usize>,
+}
+
+/// A graph: a node has a range of the edges, an edge a range of the successors.
+struct Graph {
+    nodes: Vec<Node>,
+    edges: Vec<Edge>,
+    successors: Vec<u16>,
+}
+
+impl Graph {
+    /// Rows 12 to 17.
+    fn parse(model: &Model, folder: &[u8]) -> Checked<Graph> {
+        ensure(GRAPH_BYTES.contains(&folder.len()), 12, 0)?;
+        let [nodes, edges] = bodies::<2>(folder, 13)?;
+        let record = 12 + 4 * model.variables.len();
+        let whole = nodes.len().is_multiple_of(record);
+        ensure(whole && NODES.contains(&(nodes.len() / record)), 14, 0)?;
+
+        let mut parsed = Vec::new();
+        let mut counts = Vec::new();
+        for (place, record) in nodes.chunks_exact(record).enumerate() {
+            let Some((node, edge_count)) = Graph::parse_node(model, record) else {
+                return refuse(15, place);
+            };
+            parsed.push(node);
+            counts.push(edge_count);
+        }
+
+        let mut graph = Graph { nodes: parsed, edges: Vec::new(), successors: Vec::new() };
+        let mut fields = words(edges);
+        let mut read = 0;
+        for (place, count) in counts.into_iter().enumerate() {
+            let from = graph.edges.len();
+            for _ in 0..count {
+                let Some(bytes) = graph.parse_edge(model, &mut fields) else {
+                    return refuse(16, place);
+                };
+                read += bytes;
+            }
+            graph.nodes[place].edges = from..graph.edges.len();
+        }
+        ensure(read == edges.len(), 16, graph.nodes.len())?;
+
+        let initial = model.variables.iter().map(|variable| variable.initial);
+        ensure(graph.nodes[0].concrete.iter().copied().eq(initial), 17, 0)?;
+        Ok(graph)
+    }
+
+    /// Row 15: a right node, its edges to come, and how many they are.
+    fn parse_node(model: &Model, record: &[u8]) -> Option<(Node, usize)> {
+        let (head, states) = record.split_at(12);
+        let (concrete, label) = states.split_at(states.len() / 2);
+        let mut fields = words(head);
+        let mut next = || fields.next().unwrap_or(0);
+        let kind = match next() {
+            0 => Kind::Waiting,
+            1 => Kind::Expanded,
+            2 => Kind::Covered,
+            3 => Kind::Target,
+            _ => return None,
+        };
+        let cover = usize::from(next());
+        let value = u32::from(next()) | u32::from(next()) << 16;
+        let edge_count = usize::from(next());
+        let tracked = next();
+        let node = Node {
+            kind,
+            cover,
+            value,
+            tracked,
+            concrete: signed(concrete).collect(),
+            label: signed(label).collect(),
+            edges: 0..0,
+        };
+        let variables = &model.variables;
+        let right = value <= CERTAIN
+            && (cover == 0 || kind == Kind::Covered)
+            && (edge_count == 0 || kind == Kind::Expanded)
+            && u32::from(tracked) >> variables.len() == 0
+            && variables.iter().zip(&node.concrete).all(|(variable, &value)| variable.holds(value))
+            && (0..variables.len()).all(|v| node.label(v).is_some() || node.label[v] == 0);
+        right.then_some((node, edge_count))
+    }
+
+    /// Takes one edge from the fields and gives the bytes it took; nothing if the
+    /// fields are short or name no command or no node.
+    fn parse_edge(&mut self, model: &Model, fields: &mut impl Iterator<Item = u16>) -> Option<usize> {
+        let command = usize::from(fields.next()?);
+        let branches = model.commands.get(command)?.weights.len();
+        let from = self.successors.len();
+        for _ in 0..branches {
+            let successor = fields.next()?;
+            self.nodes.get(usize::from(successor))?;
+            self.successors.push(successor);
+        }
+        self.edges.push(Edge { command, successors: from..self.successors.len() });
+        Some(2 + 2 * branches)
+    }
+
+    fn edges(&self, node: &Node) -> &[Edge] {
+        &self.edges[node.edges.clone()]
+    }
+
+    fn successors(&self, edge: &Edge) -> impl Iterator<Item = usize> + '_ {
+        self.successors[edge.successors.clone()].iter().copied().map(usize::from)
+    }
+
+    /// The sum, over an edge's branches, of weight × the successor's units.
+    fn weighed(&self, model: &Model, edge: &Edge, units: impl Fn(usize) -> u32) -> u64 {
+        let weights = &model.commands[edge.command].weights;
+        weights
+            .iter()
+            .zip(self.successors(edge))
+            .map(|(&weight, successor)| u64::from(weight) * u64::from(units(successor)))
+            .sum()
+    }
+
+    /// Rows 18 to 25, finished for one node before the next.
+    fn check(&self, model: &Model) -> Checked<()> {
+        let mut tables = (Vec::new(), Vec::new());
+        for (place, node) in self.nodes.iter().enumerate() {
+            if let Some(number) = self.broken(model, node, &mut tables) {
+                return refuse(number, place);
+            }
+        }
+        Ok(())
+    }
+
+    /// The first of the rules 18 to 25 that a node breaks.
+    fn broken(&self, model: &Model, node: &Node, tables: &mut (Vec<Reading>, Vec<Reading>)) -> Option<u32> {
+        if !node.contains(&node.concrete) {
+            return Some(18);
+        }
+        match node.kind {
+            Kind::Waiting => (node.value != CERTAIN).then_some(25),
+            Kind::Target => {
+                model.read(|v| node.label(v), &mut tables.0);
+                if tables.0[model.target] != Reading::Truth(true) {
+                    return Some(19);
+                }
+                (node.value != CERTAIN).then_some(25)
+            }
+            Kind::Covered => {
+                let Some(cover) = self.nodes.get(node.cover).filter(|cover| cover.kind != Kind::Covered)
+                else {
+                    return Some(22);
+                };
+                if !cover.contains(&node.concrete) {
+                    return Some(23);
+                }
+                let kept = |v| cover.label(v).is_none() || cover.label(v) == node.label(v);
+                if !(0..model.variables.len()).all(kept) {
+                    return Some(24);
+                }
+                (node.value < cover.value).then_some(25)
+            }
+            Kind::Expanded => {
+                let (label, concrete) = tables;
+                model.read(|v| node.label(v), label);
+                let guards = || model.commands.iter().map(|command| label[command.guard]);
+                if guards().any(|guard| guard == Reading::Unknown)
+                    || label[model.target] != Reading::Truth(false)
+                {
+                    return Some(19);
+                }
+                let enabled = guards()
+                    .enumerate()
+                    .filter(|(_, guard)| *guard == Reading::Truth(true))
+                    .map(|(command, _)| command);
+                let edges = self.edges(node);
+                if !edges.iter().map(|edge| edge.command).eq(enabled) {
+                    return Some(20);
+                }
+                model.read(|v| Some(node.concrete[v]), concrete);
+                for edge in edges {
+                    let assigned = &model.commands[edge.command].assigned;
+                    for (entries, successor) in assigned.iter().zip(self.successors(edge)) {
+                        let successor = &self.nodes[successor];
+                        let follows = |(v, &entry): (usize, &usize)| {
+                            concrete[entry] == Reading::Number(successor.concrete[v].into())
+                                && successor
+                                    .label(v)
+                                    .is_none_or(|value| label[entry] == Reading::Number(value.into()))
+                        };
+                        if !entries.iter().enumerate().all(follows) {
+                            return Some(21);
+                        }
+                    }
+                }
+                let held = u64::from(model.total) * u64::from(node.value);
+                let kept = |edge| held >= self.weighed(model, edge, |successor| self.nodes[successor].value);
+                (!edges.iter().all(kept)).then_some(25)
+            }
+        }
+    }
+
+    fn count(&self, kind: Kind) -> usize {
+        self.nodes.iter().filter(|node| node.kind == kind).count()
+    }
+
+    /// One round of figures from the last one, each row one figure per node.
+    fn round(&self, model: &Model, last: &[u32], next: &mut [u32]) {
+        for (node, figure) in self.nodes.iter().zip(next.iter_mut()) {
+            *figure = match node.kind {
+                Kind::Expanded => {
+                    let sums = self.edges(node).iter().map(|edge| self.weighed(model, edge, |m| last[m]));
+                    let greatest = sums.max().unwrap_or(0);
+                    // At most S, as each figure is and the weights total D.
+                    greatest.div_ceil(u64::from(model.total)) as u32
+                }
+                Kind::Waiting | Kind::Covered | Kind::Target => CERTAIN,
+            }
+        }
+        self.take_covers(next);
+    }
+
+    fn round_zero(&self, row: &mut [u32]) {
+        for (node, figure) in self.nodes.iter().zip(row.iter_mut()) {
+            *figure = if node.kind == Kind::Expanded { 0 } else { CERTAIN };
+        }
+        self.take_covers(row);
+    }
+
+    /// A covered node takes its cover's figure; covers are not covered.
+    fn take_covers(&self, row: &mut [u32]) {
+        for (place, node) in self.nodes.iter().enumerate() {
+            if node.kind == Kind::Covered {
+                row[place] = row[node.cover];
+            }
+        }
+    }
+}
+
+fn checked(model: &[u8], graph: &[u8]) -> Checked<(Model, Graph)> {
+    let model = Model::parse(model)?;
+    let graph = Graph::parse(&model, graph)?;
+    graph.check(&model)?;
+    Ok((model, graph))
+}
+
+// --------------------------------------------------------------------- calls
+
+/// The model check.
+pub fn model_check(model: &[u8]) -> Result<(), Refusal> {
+    Model::parse(model).map(|_| ())
+}
+
+/// The graph check, the model's rules first.
+pub fn graph_check(model: &[u8], graph: &[u8]) -> Result<Summary, Refusal> {
+    let (_, graph) = checked(model, graph)?;
+    Ok(Summary {
+        root: graph.nodes[0].value,
+        waiting: graph.count(Kind::Waiting),
+        expanded: graph.count(Kind::Expanded),
+        covered: graph.count(Kind::Covered),
+        target: graph.count(Kind::Target),
+    })
+}
+
+/// The part of a row that a figure call hands back: its first `nodes` elements.
+#[derive(Clone, Copy, Debug, PartialEq, Eq)]
+pub struct Part {
+    /// Whether it is of the second row.
+    pub second: bool,
+    pub nodes: usize,
+}
+
+/// The figures for `h` steps. Round `h` stands in the row of its parity and the
+/// round before it in the other, untouched at `h` = 0; elements past the node
+/// count stay, and both rows when refused.
+pub fn figure(
+    model: &[u8],
+    graph: &[u8],
+    h: usize,
+    first: &mut [u32],
+    second: &mut [u32],
+) -> Result<Part, Refusal> {
+    let (model, graph) = checked(model, graph)?;
+    if let Some(waiting) = graph.nodes.iter().position(|node| node.kind == Kind::Waiting) {
+        return refuse(26, waiting);
+    }
+    ensure(h <= STEPS, 27, 0)?;
+    let nodes = graph.nodes.len();
+    ensure(first.len() >= nodes, 28, 0)?;
+    ensure(second.len() >= nodes, 28, 1)?;
+
+    let mut last = &mut first[..nodes];
+    let mut next = &mut second[..nodes];
+    graph.round_zero(last);
+    for _ in 0..h {
+        graph.round(&model, last, next);
+        if last == next {
+            // So are all rounds from here on.
+            break;
+        }
+        std::mem::swap(&mut last, &mut next);
+    }
+    Ok(Part { second: h % 2 == 1, nodes })
+}
+
+/// The step of a state by a command and a branch. The new state stands first in
+/// the result row, whose later elements stay, and all when refused.
+pub fn step(
+    model: &[u8],
+    state: &[i16],
+    command: usize,
+    branch: usize,
+    result: &mut [i16],
+) -> Result<(), Refusal> {
+    let model = Model::parse(model)?;
+    let variables = &model.variables;
+    ensure(state.len() == variables.len() && result.len() >= variables.len(), 29, 0)?;
+    for (place, (variable, &value)) in variables.iter().zip(state).enumerate() {
+        ensure(variable.holds(value), 30, place)?;
+    }
+    let Some(asked) = model.commands.get(command) else {
+        return refuse(31, command);
+    };
+    let mut table = Vec::new();
+    model.read(|v| Some(state[v]), &mut table);
+    ensure(table[asked.guard] == Reading::Truth(true), 32, command)?;
+    let Some(assigned) = asked.assigned.get(branch) else {
+        return refuse(33, branch);
+    };
+    for (&entry, value) in assigned.iter().zip(result) {
+        if let Reading::Number(number) = table[entry] {
+            // In the variable's range, by row 10.
+            *value = number as i16;
+        }
+    }
+    Ok(())
+}
+
+/// The view: a record of the model folder by its body and number, or the empty
+/// part at the folder's start.
+pub fn record_part(model: &[u8], body: usize, record: usize) -> &[u8] {
+    let part = model_bodies(model)
+        .ok()
+        .and_then(|bodies| bodies.get(body).copied())
+        .and_then(|(body, length)| body.chunks_exact(length).nth(record));
+    part.unwrap_or(&model[..0])
+}
