@@ -1,0 +1,82 @@
+-- A node of an accepted graph, as the code reads it: its edges are ready, its figure is the definition's, and the next
+-- node's edges start where its own end.
+-- Assumes nothing.
+use Prim.Native.Nat.{ℕ, _+_, _*_, _≤_, _<_}
+use native.Mathlib.Omega.{arith}
+use mathlib.Core.Path.{_≡_, refl, sym, ap, _∙_}
+use mathlib.Core.List.{List}
+use lib.ListN.{length}
+use Rattle.folder.specs.Contents.{body, countOf, field}
+use Rattle.model.specs.Limits.{mostVariables, mostCommands, mostRecords}
+use Rattle.model.specs.Layout.{variableCount, recordSize, recordCount}
+use Rattle.model.specs.Model.{Model, modelOf}
+use Rattle.graph.specs.Limits.{mostNodes, units}
+use Rattle.graph.specs.Simulation.{Simulation, edgesStart, nodeSize, nodeField, simulationOf}
+use Rattle.graph.specs.Valid.{Valid}
+use Rattle.rounds.specs.Edges.{after, EdgesReady, bestOf}
+use Rattle.rounds.specs.Rounds.{Tables, Round, figureBy, ownNext, nodesOf}
+use Rattle.rounds.proofs.ModelLaws.{edges-ready, best-is, next-starts, best-small}
+use Rattle.rounds.proofs.RoundLaws.{own-next}
+
+-- What the code reads of the folders once: the size of a node and the body of nodes; D, and the bodies of commands and edges.
+pub record Sized (m g : List ℕ) (size : ℕ) (nb : List ℕ) : Type 0 where
+  pub size-is : size ≡ nodeSize (variableCount m)
+  pub nodes-in : nb ≡ body g 0
+
+pub record Parts (m g : List ℕ) (size d : ℕ) (cs nb eb : List ℕ) : Type 0 where
+  pub sized : Sized m g size nb
+  pub total : d ≡ modelOf m .total
+  pub commands : cs ≡ body m 3
+  pub edges : eb ≡ body g 1
+
+pub nodes-are : {m g nb : List ℕ} {size k : ℕ} → Sized m g size nb → k ≡ countOf size nb → k ≡ nodesOf m g
+nodes-are S e = e ∙ rw (S .size-is, S .nodes-in) refl
+
+module _ {m g : List ℕ} (A : Valid m g) where
+  abbrev M : Model
+  M = modelOf m
+
+  abbrev G : Simulation
+  G = simulationOf M g
+
+  pub few-variables : variableCount m ≤ mostVariables
+  unfolding recordCount recordSize
+  few-variables = A .model .folder .records 1 (omega arith) .few
+
+  pub few-commands : M .commands ≤ mostCommands
+  unfolding recordCount recordSize
+  few-commands = A .model .folder .records 3 (omega arith) .few
+
+  pub few-records : M .records ≤ mostRecords
+  unfolding recordCount recordSize
+  few-records = A .model .folder .records 4 (omega arith) .few
+
+  pub some-total : 0 < M .total
+  some-total = omega (arith, A .model .model .total)
+
+  -- Where the edges of node n start.
+  abbrev starts : ℕ → ℕ
+  starts n = edgesStart M (body g 1) (λ i. nodeField M g i 4) n
+
+  pub starts-none : 0 ≡ starts 0
+  unfolding edgesStart
+  starts-none = refl
+
+  module _ {size d : ℕ} {cs nb eb : List ℕ} (P : Parts m g size d cs nb eb) {weights firsts : List ℕ} (T : Tables M weights firsts) where
+    module _ {n at count : ℕ} (l : n < G .nodes) (a : at ≡ starts n) (q : count ≡ field size nb n 4) where
+      pub node-ready : (nodes : ℕ) → G .nodes ≤ nodes → EdgesReady cs eb weights firsts nodes at count
+      node-ready nodes k = rw (P .commands, P .edges, a, q, P .sized .size-is, P .sized .nodes-in) (edges-ready m g (A .model .model) T n (A .graph .edges n l) nodes k)
+
+      pub node-next : {k : ℕ} → k ≡ after cs eb at count → k ≡ starts (n + 1)
+      node-next p = p ∙ rw (P .commands, P .edges, a, q, P .sized .size-is, P .sized .nodes-in) (next-starts m g (A .model .model) T n (A .graph .edges n l))
+
+      module _ (row : List ℕ) {best : ℕ} (b : best ≡ bestOf cs eb weights firsts row at count) where
+        pub node-small : Round (G .nodes) row → best ≤ d * units
+        node-small S =
+            rw (b, P .total, P .commands, P .edges, a, q, P .sized .size-is, P .sized .nodes-in, best-is m g (A .model .model) T n (A .graph .edges n l) row)
+            (best-small m g (A .model .model) n (A .graph .edges n l) row S)
+
+        pub node-figure : {kind f : ℕ} → kind ≡ field size nb n 0 → f ≡ figureBy kind best d → f ≡ ownNext M G row n
+        node-figure k p =
+            p ∙ rw (k, b, P .total, P .commands, P .edges, a, q, P .sized .size-is, P .sized .nodes-in, best-is m g (A .model .model) T n (A .graph .edges n l) row)
+            (sym (own-next M G row n))

@@ -1,0 +1,106 @@
+-- One round from the row of the last one, in the words of mdp's rounds; and what the rows hold after h of them.
+-- Assumes nothing.
+use Prim.Native.Nat.{ℕ, _+_, _-_, _/_, _≤_, _<_}
+use mathlib.Core.Path.{_≡_}
+use mathlib.Core.List.{List, _++_}
+use lib.ListN.{length, getD, drop}
+use lib.Dec.{eqb}
+use Rattle.mdp.specs.Sums.{sum}
+use Rattle.mdp.specs.Graph.{start, again, shared, up, figure}
+use Rattle.folder.specs.Pick.{pick}
+use Rattle.folder.specs.Tab.{tab}
+use Rattle.folder.specs.Contents.{field}
+use Rattle.folder.specs.declared.Outcome.the-variants.{Accepted}
+use Rattle.model.specs.Model.{Model, modelOf, firstRecord}
+use Rattle.model.specs.Chances.{mdp}
+use Rattle.graph.specs.Limits.{units}
+use Rattle.graph.specs.Simulation.{Simulation, graph, kindOf, nodeCount, simulationOf}
+use Rattle.graph.specs.Figures.{firstOf, secondOf, inFirst}
+
+-- The tables that a round reads: each branch record's weight, and each command's first branch record.
+pub record Tables (M : Model) (weights firsts : List ℕ) : Type 0 where
+  pub weighed : (r : ℕ) → r < M .records → getD weights r 0 ≡ M .weight r
+  pub light : (r : ℕ) → r < M .records → getD weights r 0 < 65536
+  pub placed : (c : ℕ) → c < M .commands → getD firsts c 0 ≡ firstRecord M c
+  pub weights-long : M .records ≤ length weights
+  pub firsts-long : M .commands ≤ length firsts
+
+-- The weights of a body of branch records, and each command's first branch record from the body of commands.
+abbrev pub weightIn : ℕ → List ℕ → ℕ → ℕ
+weightIn size bs r = field size bs r 0
+
+abbrev pub firstIn : List ℕ → ℕ → ℕ
+firstIn cs c = sum c (λ i _. field 4 cs i 1)
+
+-- The first n values of f fit 16 bits.
+pub record Light (n : ℕ) (f : ℕ → ℕ) : Type 0 where
+  pub fits : (r : ℕ) → r < n → f r < 65536
+
+-- A row that holds a round of so many nodes: no figure is more than certainty.
+pub record Round (nodes : ℕ) (row : List ℕ) : Type 0 where
+  pub long : nodes ≤ length row
+  pub small : (n : ℕ) → n < nodes → getD row n 0 ≤ units
+
+-- A row whose first n elements are f's values; the later ones stay.
+abbrev pub fill : ℕ → (ℕ → ℕ) → List ℕ → List ℕ
+fill n f row = tab n f ++ drop n row
+
+-- The figure of a node by its kind, unless it is covered: `best` is the greatest sum over its edges.
+unfoldable pub figureBy : ℕ → ℕ → ℕ → ℕ
+figureBy kind best d = pick (eqb kind 1) ((best + (d - 1)) / d) (pick (eqb kind 2) 0 units)
+
+-- Whose figure a node takes: its cover's, if it has one.
+unfoldable pub source : Simulation → ℕ → ℕ
+source G n = pick (eqb (G .kind n) 2) (G .cover n) n
+
+module _ (M : Model) (G : Simulation) where
+  -- What node n holds in round 0, unless it is covered; and in the round after the one in `row`.
+  unfoldable pub ownStart : ℕ → ℕ
+  ownStart n = start (mdp M) (graph G) units units (up (mdp M) (graph G) units) (kindOf (G .kind n))
+
+  unfoldable pub ownNext : List ℕ → ℕ → ℕ
+  ownNext row n = again (mdp M) (graph G) units units (up (mdp M) (graph G) units) (λ k. getD row k 0) (kindOf (G .kind n)) n
+
+  -- The round after the one in `row`.
+  unfoldable pub nextRound : List ℕ → ℕ → ℕ
+  nextRound row n = shared (mdp M) (graph G) units units (up (mdp M) (graph G) units) (ownNext row) (kindOf (G .kind n)) n
+
+-- The same over the bytes of the two folders: what a row holds that was filled so.
+module _ (m g : List ℕ) where
+  abbrev pub nodesOf : ℕ
+  nodesOf = nodeCount (modelOf m) g
+
+  abbrev pub ownStartRow : List ℕ → List ℕ
+  ownStartRow row = fill nodesOf (ownStart (modelOf m) (simulationOf (modelOf m) g)) row
+
+  abbrev pub ownNextRow : List ℕ → List ℕ → List ℕ
+  ownNextRow last row = fill nodesOf (ownNext (modelOf m) (simulationOf (modelOf m) g) last) row
+
+  -- Each node takes its source's figure.
+  abbrev pub coverRow : List ℕ → List ℕ
+  coverRow row = fill nodesOf (λ n. getD row (source (simulationOf (modelOf m) g) n) 0) row
+
+  -- Round 0, and the round after the one in `last`.
+  abbrev pub startRow : List ℕ → List ℕ
+  startRow row = fill nodesOf (figure (mdp (modelOf m)) (graph (simulationOf (modelOf m) g)) units 0) row
+
+  abbrev pub nextRow : List ℕ → List ℕ → List ℕ
+  nextRow last row = fill nodesOf (nextRound (modelOf m) (simulationOf (modelOf m) g) last) row
+
+  -- What the two rows hold after h rounds, the row given being what they held before.
+  unfoldable pub firstAt : ℕ → List ℕ → List ℕ
+  firstAt h row = firstOf (modelOf m) (simulationOf (modelOf m) g) h Accepted row
+
+  unfoldable pub secondAt : ℕ → List ℕ → List ℕ
+  secondAt h row = secondOf (modelOf m) (simulationOf (modelOf m) g) h Accepted row
+
+  -- What a turn makes of the rows: round k + 1 goes into the row of its parity, from round k in the other.
+  unfoldable pub turnFirst : ℕ → List ℕ → List ℕ → List ℕ
+  turnFirst k a b = pick (inFirst k) a (nextRow b a)
+
+  unfoldable pub turnSecond : ℕ → List ℕ → List ℕ → List ℕ
+  turnSecond k a b = pick (inFirst k) (nextRow a b) b
+
+-- The row that holds round k.
+unfoldable pub heldIn : ℕ → List ℕ → List ℕ → List ℕ
+heldIn k a b = pick (inFirst k) a b
