@@ -87,6 +87,9 @@ module _ (M : Model) (g : List ℕ) where
   unfolding edgesStart
   reach-start n = record { scanned = scan-start _ (n + 1); within = omega arith; stands = refl }
 
+  whole-row : {n p : ℕ} → n ≡ nodeCount M g → p ≡ firstBad (edgesFit M (simulationOf M g)) (n + 1) → p ≡ firstBad (edgesFit M (simulationOf M g)) (nodeCount M g + 1)
+  whole-row q e = e ∙ ap (λ (x : ℕ). firstBad (edgesFit M (simulationOf M g)) (x + 1)) q
+
 -- Node i has `count` edges, and the walk over them from k found `bad` and ended at `next`.
 module _ (M : Model) (g : List ℕ) {es : List ℕ} {n i k count bad next : ℕ} (pe : es ≡ body g 1) (pn : n ≡ nodeCount M g) (r : Reached M g n i k)
     (l : i < n) (pc : count ≡ nodeField M g i 4) (w : Walked M n es k count bad next) where
@@ -97,7 +100,7 @@ module _ (M : Model) (g : List ℕ) {es : List ℕ} {n i k count bad next : ℕ}
       ∙ sym (edges-of M g i (omega arith))
 
   pub reach-found : bad < count → i ≡ firstBad (edgesFit M (simulationOf M g)) (nodeCount M g + 1)
-  reach-found b = scan-found (r .scanned) (omega arith) here-fits (ne-eqb bad count (λ e. omega arith)) ∙ ap (λ (x : ℕ). firstBad (edgesFit M (simulationOf M g)) (x + 1)) pn
+  reach-found b = whole-row M g pn (scan-found (r .scanned) (omega arith) here-fits (ne-eqb bad count (λ e. omega arith)))
 
   pub reach-next : count ≤ bad → Reached M g n (i + 1) next
   unfolding edgesStart
@@ -116,16 +119,13 @@ module _ (M : Model) (g : List ℕ) {es : List ℕ} {n i k : ℕ} (pe : es ≡ b
       let q : i ≡ nodeCount M g = omega (arith, r .within) in
       (λ t. eqb ((r .stands ∙ ap (startsAt M g) q) t) (length (pe t))) ∙ sym (edges-last M g) ∙ ap (edgesFit M (simulationOf M g)) (sym q)
 
-  whole : {p : ℕ} → p ≡ firstBad (edgesFit M (simulationOf M g)) (n + 1) → p ≡ firstBad (edgesFit M (simulationOf M g)) (nodeCount M g + 1)
-  whole e = e ∙ ap (λ (x : ℕ). firstBad (edgesFit M (simulationOf M g)) (x + 1)) pn
-
   pub reach-over : k ≡ length es → n + 1 ≡ firstBad (edgesFit M (simulationOf M g)) (nodeCount M g + 1)
   reach-over e =
       let s = scan-next (r .scanned) (omega (arith, r .within)) last-fits (eq-eqb k (length es) e) in
       let q : i + 1 ≡ n + 1 = omega (arith, r .within) in
-      whole (sym q ∙ scan-over s (omega arith))
+      whole-row M g pn (sym q ∙ scan-over s (omega arith))
 
   pub reach-left : (k ≡ length es → ⊥) → n ≡ firstBad (edgesFit M (simulationOf M g)) (nodeCount M g + 1)
   reach-left h =
       let q : n ≡ i = omega (arith, r .within) in
-      whole (q ∙ scan-found (r .scanned) (omega (arith, r .within)) last-fits (ne-eqb k (length es) h))
+      whole-row M g pn (q ∙ scan-found (r .scanned) (omega (arith, r .within)) last-fits (ne-eqb k (length es) h))

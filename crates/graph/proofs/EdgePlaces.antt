@@ -10,12 +10,13 @@ use borrow.Author.Tests.{leb-true}
 use Rattle.folder.specs.Contents.{body}
 use Rattle.model.specs.Model.{Model, modelOf}
 use Rattle.model.specs.Valid.{Valid}
-use Rattle.graph.specs.Simulation.{edgeSize, edgeAfter, edgesStart, edgeWhole, nodeField, edgeAt, nodeCount, simulationOf}
+use Rattle.graph.specs.Limits.{mostBytes}
+use Rattle.graph.specs.Simulation.{edgeSize, edgeAfter, edgesStart, edgeWhole, nodeField, edgeAt, nodeCount}
 use Rattle.graph.specs.Rows.{RowsRight}
 use Rattle.graph.specs.Walks.{startsAt, EdgeThere}
-use Rattle.graph.proofs.Limits.{few-branches}
+use Rattle.graph.proofs.Limits.{few-branches, body-short}
 
--- ---- the cursor, of any graph: its edge body is es
+-- ---- the cursor, of any graph
 module _ (M : Model) (g : List ℕ) where
   -- Node 0's edges start at 0.
   pub place-none : startsAt M g 0 ≡ 0
@@ -24,14 +25,14 @@ module _ (M : Model) (g : List ℕ) where
 
   -- A node's first edge stands where its edges start; each next one, after the edge before; and after its last edge the
   -- next node's start.
-  module _ (n : ℕ) {es : List ℕ} (q : es ≡ body g 1) {k : ℕ} where
+  module _ (n : ℕ) {k : ℕ} where
     pub place-start : k ≡ startsAt M g n → k ≡ edgeAt M g n 0
     unfolding edgeAt edgeAfter
     place-start p = p
 
-    pub place-next : (e : ℕ) {size : ℕ} → k ≡ edgeAt M g n e → size ≡ edgeSize M es k → k + size ≡ edgeAt M g n (e + 1)
+    pub place-next : (e : ℕ) {es : List ℕ} {size : ℕ} → es ≡ body g 1 → k ≡ edgeAt M g n e → size ≡ edgeSize M es k → k + size ≡ edgeAt M g n (e + 1)
     unfolding edgeAt edgeAfter
-    place-next e p s = rw add-one ((λ t. k + s t) ∙ (λ t. p t + edgeSize M (q t) (p t)))
+    place-next e q p s = rw add-one ((λ t. k + s t) ∙ (λ t. p t + edgeSize M (q t) (p t)))
 
     pub place-over : k ≡ edgeAt M g n (nodeField M g n 4) → k ≡ startsAt M g (n + 1)
     unfolding edgeAt edgesStart
@@ -49,15 +50,21 @@ module _ {M : Model} {g : List ℕ} (rows : RowsRight M g) where
   edge-there n e l h q p c =
       rw (q, p, c) (record { ends = ends n e l h; command = rows .edges n l e h .command; successors = rows .edges n l e h .successors })
 
-  -- No cursor passes the body's end.
-  pub edge-within : (n e : ℕ) → n < nodeCount M g → e ≤ nodeField M g n 4 → startsAt M g n ≤ length (body g 1) → edgeAt M g n e ≤ length (body g 1)
-  edge-within n zero l h s = rw (sym (place-start M g n refl refl)) s
-  edge-within n (suc e) l h s = rw (sym (add-one e), sym (place-next M g n refl e refl refl)) (ends n e l (omega arith))
+  -- No cursor passes the body's end, which is near.
+  from-start : (n e : ℕ) → n < nodeCount M g → e ≤ nodeField M g n 4 → startsAt M g n ≤ length (body g 1) → edgeAt M g n e ≤ length (body g 1)
+  from-start n zero l h s = rw (sym (place-start M g n refl)) s
+  from-start n (suc e) l h s = rw (sym (add-one e), sym (place-next M g n e refl refl refl)) (ends n e l (omega arith))
 
   pub start-within : (n : ℕ) → n ≤ nodeCount M g → startsAt M g n ≤ length (body g 1)
   start-within zero l = rw (place-none M g) zero-le
   start-within (suc n) l =
-      rw (sym (add-one n), sym (place-over M g n refl refl)) (edge-within n (nodeField M g n 4) (omega arith) (omega arith) (start-within n (omega arith)))
+      rw (sym (add-one n), sym (place-over M g n refl)) (from-start n (nodeField M g n 4) (omega arith) (omega arith) (start-within n (omega arith)))
+
+  pub place-within : (n e : ℕ) → n < nodeCount M g → e ≤ nodeField M g n 4 → edgeAt M g n e ≤ length (body g 1)
+  place-within n e l h = from-start n e l h (start-within n (omega arith))
+
+  pub edges-short : length (body g 1) ≤ mostBytes
+  edges-short = omega (arith, body-short g 1, rows .folder .short)
 
 -- An edge has at most 34 bytes.
 pub edge-small : {m : List ℕ} {nodes k : ℕ} {es : List ℕ} → Valid m → EdgeThere (modelOf m) nodes es k → edgeSize (modelOf m) es k ≤ 34

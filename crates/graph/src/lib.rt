@@ -1,11 +1,12 @@
 // The graph check: rows 12 to 17 of the table, over a model folder that the model check accepts. A body is a slice of
-// its own: vs and cs are the model's variables and commands, ns and es the graph's nodes and edges.
+// its own: vs and cs are the model's variables and commands, ns and es the graph's nodes and edges. A contract over
+// bodies holds of whichever folders have them.
 use folder::Outcome;
 use folder::Refusal;
 ghost use mathlib.Core.Path.{_≡_};
-ghost use mathlib.Core.Bool.{Bool, true};
+ghost use mathlib.Core.Bool.{true};
 ghost use mathlib.Core.List.{List};
-ghost use Prim.Native.Nat.{ℕ, _+_, _*_, _<_, _≤_, _^_};
+ghost use Prim.Native.Nat.{ℕ, _+_, _<_, _≤_, _^_};
 ghost use lib.ListN.{length, drop};
 ghost use Rattle.folder.specs.Pick.{implies};
 ghost use Rattle.folder.specs.Scan.{firstBad};
@@ -86,14 +87,14 @@ fn bytes_fit(g: &[u8]) -> bool
     (LEAST_BYTES <= g.len()) & (g.len() <= MOST_BYTES)
 }
 
-fn node_size(variables: usize) -> usize
+pub fn node_size(variables: usize) -> usize
     requires { ⌜ variables ≤ 16 ⌝ }
     ensures { λ r. ⌜ (r ≡ nodeSize variables) × (0 < r) × (r ≤ 76) ⌝ }
 {
     12 + 4 * variables
 }
 
-fn variable_count(m: &[u8]) -> usize
+pub fn variable_count(m: &[u8]) -> usize
     requires { ⌜ Valid (now m) ⌝ }
     ensures { λ r. ⌜ (r ≡ variableCount (now (m .entry))) × (r ≤ 16) ⌝ }
 {

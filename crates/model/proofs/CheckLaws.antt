@@ -2,7 +2,6 @@
 -- Assumes nothing.
 use Prim.Native.Nat.{ℕ, _<_, _≤_}
 use mathlib.Core.Path.{_≡_, refl, sym, _∙_}
-use mathlib.Core.Logic.{_↔_}
 use mathlib.Core.Bool.{Bool, true}
 use mathlib.Core.List.{List}
 use native.Mathlib.Decide.{decLt}
@@ -24,9 +23,10 @@ use Rattle.expressions.specs.Ranges.{boundIn}
 use Rattle.expressions.specs.Rules.{entryFits, rangeFits}
 use Rattle.expressions.proofs.Decided.{entry-decided}
 use Rattle.expressions.proofs.Levels.{lower}
-use Rattle.ranges.specs.Settled.{Ordered, Based, Settled, lowEnds, highEnds}
+use Rattle.ranges.specs.Settled.{Ordered, Based, lowEnds, highEnds}
 use Rattle.ranges.proofs.RangeLaws.{bound-here, bound-past}
 use Rattle.ranges.proofs.RowLaws.{settled}
+use Rattle.model.specs.Bodies.{Held}
 use Rattle.model.specs.Layout.{variableCount}
 use Rattle.model.specs.Model.{Model, modelOf, bound, firstRecord}
 use Rattle.model.specs.Rules.{variableFits, recordsAddUp}
@@ -68,7 +68,7 @@ module _ (m : List ℕ) where
     -- What row 10 needs of row 6.
     pub settled-all : {p n : ℕ} → p ≡ firstBad (rangeFits (entriesOf x) (boundIn y)) (countOf 8 x) → n ≡ countOf 8 x → n ≤ p
         → {lows highs : List ℤ} (lows₀ highs₀ : List ℤ) → lows ≡ lowEnds x y p lows₀ → highs ≡ highEnds x y p highs₀ → n ≤ length lows₀ → n ≤ length highs₀
-        → Settled (body m 2) (body m 1) lows highs (countOf 8 (body m 2))
+        → Held (body m 2) (body m 1) lows highs
     settled-all {p} {n} e g l {lows} {highs} lows₀ highs₀ a b c d =
         let w : p ≡ countOf 8 x = omega (arith, found-le (rangeFits (entriesOf x) (boundIn y)) (countOf 8 x) e) in
         rw (← q, ← s, ← w) (settled x y p lows highs lows₀ highs₀ a b (omega arith) (omega arith))

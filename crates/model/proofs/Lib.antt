@@ -1,9 +1,9 @@
 pub mod Decided
 pub mod Chances
-pub mod LayoutLaws
-pub mod BodyLaws
-pub mod SumLoop
-pub mod ViewLaws
 pub mod Limits
-pub mod AssignLaws
-pub mod CheckLaws
+pub mod SumLoop
+mod LayoutLaws
+mod BodyLaws
+mod AssignLaws
+mod CheckLaws
+mod ViewLaws

@@ -3,10 +3,12 @@
 use mathlib.Core.Bool.{Bool, _&&_}
 use mathlib.Core.List.{List}
 use Prim.Native.Nat.{ℕ, _+_}
+use lib.IntN.{ℤ}
 use Rattle.folder.specs.Contents.{countOf, field, signedField}
 use Rattle.expressions.specs.Entries.{Entries, entriesOf, isNumber}
 use Rattle.expressions.specs.Ranges.{rangeOf, inside}
 use Rattle.expressions.specs.declared.Range.{Range}
+use Rattle.ranges.specs.Settled.{Settled}
 use Rattle.model.specs.Layout.{branchSize}
 use Rattle.model.specs.Model.{Model}
 
@@ -26,6 +28,10 @@ modelIn terms variables expressions commands branches = record {
   weight = λ r. field (branchSize (countOf 6 variables)) branches r 0;
   assigned = λ r v. field (branchSize (countOf 6 variables)) branches r (1 + v);
 }
+
+-- The rows hold the ranges of all entries of the expression body x, over the variable body y.
+abbrev pub Held : List ℕ → List ℕ → List ℤ → List ℤ → Type 0
+Held x y lows highs = Settled x y lows highs (countOf 8 x)
 
 -- Row 10, for an entry that is assigned to variable v: a number whose range stays in the variable's.
 abbrev pub staysIn : Entries → (ℕ → Range) → ℕ → ℕ → Bool

@@ -1,7 +1,7 @@
 // The model folder: the counts and sizes of its records, the model check, and the view.
 ghost use mathlib.Core.Path.{_≡_};
-ghost use mathlib.Core.List.{List, []};
-ghost use Prim.Native.Nat.{ℕ, _+_, _*_, _<_, _≤_, _^_};
+ghost use mathlib.Core.List.{[]};
+ghost use Prim.Native.Nat.{_+_, _<_, _≤_, _^_};
 ghost use lib.ListN.{drop};
 ghost use Rattle.mdp.specs.Sums.{sum};
 ghost use Rattle.folder.specs.Scan.{firstBad};
@@ -9,10 +9,9 @@ ghost use Rattle.folder.specs.Contents.{body, countOf, field};
 ghost use Rattle.folder.specs.Table.{outcome};
 ghost use Rattle.expressions.specs.Entries.{entriesOf};
 ghost use Rattle.expressions.specs.Ranges.{boundIn};
-ghost use Rattle.ranges.specs.Settled.{Settled};
-ghost use Rattle.model.specs.Layout.{select, variableCount, branchSize, recordSize, recordCount};
+ghost use Rattle.model.specs.Layout.{select, variableCount, recordSize, recordCount};
 ghost use Rattle.model.specs.Model.{modelOf, firstRecord};
-ghost use Rattle.model.specs.Bodies.{modelIn, staysIn};
+ghost use Rattle.model.specs.Bodies.{modelIn, Held, staysIn};
 ghost use Rattle.model.specs.Rules.{bytesFit, recordsFit, variableFits, termsFit, commandFits, recordsAddUp, assignedFits, branchFits, weightsTotal};
 ghost use Rattle.model.specs.Table.{folderRows, contentRows, modelOutcome};
 ghost use Rattle.model.specs.Valid.{FolderRight};
@@ -195,7 +194,7 @@ fn records_add_up(m: &[u8]) -> bool
 
 // Entry e is a number, and its range, which the rows hold, stays in that of variable v.
 fn stays_in(x: &[u8], y: &[u8], lows: &[i64], highs: &[i64], e: usize, v: usize) -> bool
-    requires { ⌜ Settled (now x) (now y) (now lows) (now highs) (countOf 8 (now x)) ⌝ }
+    requires { ⌜ Held (now x) (now y) (now lows) (now highs) ⌝ }
     requires { ⌜ (e ≤ 65536) × (v ≤ 65536) ⌝ }
     ensures { λ r. ⌜ r ≡ staysIn (entriesOf (now (x .entry))) (boundIn (now (y .entry))) e v ⌝ }
 {
@@ -217,7 +216,7 @@ fn first_bad_assigned(
     r: usize,
     n: usize,
 ) -> usize
-    requires { ⌜ Settled (now x) (now y) (now lows) (now highs) (countOf 8 (now x)) ⌝ }
+    requires { ⌜ Held (now x) (now y) (now lows) (now highs) ⌝ }
     requires { ⌜ (n ≡ countOf 6 (now y)) × (n ≤ 16) × (r ≤ 65536) ⌝ }
     ensures { λ p. ⌜ p ≡ firstBad (assignedFits (modelIn [] (now (y .entry)) (now (x .entry)) [] (now (b .entry))) r) n ⌝ }
 {
@@ -244,7 +243,7 @@ fn branch_fits(
     r: usize,
     n: usize,
 ) -> bool
-    requires { ⌜ Settled (now x) (now y) (now lows) (now highs) (countOf 8 (now x)) ⌝ }
+    requires { ⌜ Held (now x) (now y) (now lows) (now highs) ⌝ }
     requires { ⌜ (n ≡ countOf 6 (now y)) × (n ≤ 16) × (r ≤ 65536) ⌝ }
     ensures { λ p. ⌜ p ≡ branchFits (modelIn [] (now (y .entry)) (now (x .entry)) [] (now (b .entry))) r ⌝ }
 {
@@ -253,7 +252,7 @@ fn branch_fits(
 }
 
 fn first_bad_branch(m: &[u8], lows: &[i64], highs: &[i64], n: usize) -> usize
-    requires { ⌜ Settled (body (now m) 2) (body (now m) 1) (now lows) (now highs) (countOf 8 (body (now m) 2)) ⌝ }
+    requires { ⌜ Held (body (now m) 2) (body (now m) 1) (now lows) (now highs) ⌝ }
     requires { ⌜ (variableCount (now m) ≤ 16) × (n ≤ 65536) ⌝ }
     ensures { λ r. ⌜ r ≡ firstBad (branchFits (modelOf (now (m .entry)))) n ⌝ }
 {
@@ -331,7 +330,7 @@ pub fn check_folder(m: &[u8]) -> Outcome
 // Rows 9 to 11 of a model whose folder rows hold. The rows `lows` and `highs` hold the ranges of its entries.
 fn check_branches(m: &[u8], lows: &[i64], highs: &[i64]) -> Outcome
     requires { ⌜ FolderRight (now m) ⌝ }
-    requires { ⌜ Settled (body (now m) 2) (body (now m) 1) (now lows) (now highs) (countOf 8 (body (now m) 2)) ⌝ }
+    requires { ⌜ Held (body (now m) 2) (body (now m) 1) (now lows) (now highs) ⌝ }
     ensures { λ r. ⌜ r ≡ outcome (drop 5 (contentRows (modelOf (now (m .entry))))) ⌝ }
 {
     let p9 = folder::only_place(records_add_up(m));
@@ -354,7 +353,7 @@ fn check_branches(m: &[u8], lows: &[i64], highs: &[i64]) -> Outcome
 // Rows 7 and 8, and those after them.
 fn check_commands(m: &[u8], lows: &[i64], highs: &[i64]) -> Outcome
     requires { ⌜ FolderRight (now m) ⌝ }
-    requires { ⌜ Settled (body (now m) 2) (body (now m) 1) (now lows) (now highs) (countOf 8 (body (now m) 2)) ⌝ }
+    requires { ⌜ Held (body (now m) 2) (body (now m) 1) (now lows) (now highs) ⌝ }
     ensures { λ r. ⌜ r ≡ outcome (drop 3 (contentRows (modelOf (now (m .entry))))) ⌝ }
 {
     let p7 = first_bad_term(m);

@@ -1,11 +1,9 @@
-use Prim.Native.Nat.{ℕ, _+_, _-_, _≤_}
-use mathlib.Core.Path.{_≡_, ap, _∙_}
+use Prim.Native.Nat.{_-_, _≤_}
+use mathlib.Core.Path.{_≡_, ap}
 use lib.ListN.{length}
 use denote.Ref.{now}
 use native.Mathlib.Omega.{arith}
 use borrow.Author.Needs.{needs}
-use Rattle.folder.specs.Scan.{firstBad}
-use Rattle.folder.specs.Contents.{body}
 use Rattle.model.specs.Model.{modelOf}
 use Rattle.graph.specs.Simulation.{nodeField}
 use Rattle.graph.proofs.Limits.{body-short}

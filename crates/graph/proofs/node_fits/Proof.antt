@@ -1,11 +1,11 @@
-use Rattle.graph.specs.Rules.{nodeFits, headFits}
+use Rattle.graph.proofs.NodeLaws.{node-is}
 use borrow.Author.Needs.{needs}
 use Rattle.graph.proofs.node_fits.Statement.{statement}
 use Rattle.graph.proofs.node_fits.Tie as tie
 
 returns : tie.Need-returns
-unfolding nodeFits headFits
-returns c = λ m g h. cc (c .before .before .first-bad-value .ensures m g h)
+returns c = λ m g h.
+    node-is h _ (c .before .before .before .before .before .before .before .before .node-size .ensures .0) (c .before .before .before .before .before .before .before .field .ensures .0) (c .before .before .before .before .before .before .field2 .ensures .0) (c .before .before .before .before .before .field4 .ensures .0) (c .before .before .before .before .field3 .ensures .0) (c .before .before .before .field5 .ensures .0) (c .before .before .first-bad-value .ensures m g h) (c .before .implies .ensures) (c .implies2 .ensures)
 
 pub node-fits-spec : {M : Type 1} → statement M
 node-fits-spec =

@@ -1,6 +1,4 @@
-use Prim.Native.Nat.{ℕ, _≤_}
-use mathlib.Core.Path.{_≡_, ap, sym, _∙_}
-use denote.Ref.{now}
+use mathlib.Core.Path.{ap, _∙_}
 use Rattle.folder.specs.Contents.{countOf}
 use Rattle.graph.proofs.Limits.{few-variables}
 use borrow.Author.Needs.{needs}

@@ -73,9 +73,10 @@ fill-ranges-requires : tie.Need-fill-ranges-requires
 fill-ranges-requires c κs =
     let e = c .before .before .before in
     let v = e .before .before .before .before in
-    let n = count (e .before .before) in
-    (based _ (e .before .before .before .body .ensures) (c .before .before .body2 .ensures) (v .before .before .variable-count .ensures .0) (v .before .first-bad-variable .ensures) (v .if1 .left) n (row5 (e .before)) (e .if2 .left),
-    (omega (arith, limits (v .before .before .before .before .pre), n, e .before .before .count-of .ensures), (omega arith, omega arith)))
+    let n = count (e .before .before) in (
+      based _ (e .before .before .before .body .ensures) (c .before .before .body2 .ensures) (v .before .before .variable-count .ensures .0) (v .before .first-bad-variable .ensures) (v .if1 .left) n (row5 (e .before)) (e .if2 .left),
+      (omega (arith, limits (v .before .before .before .before .pre), n, e .before .before .count-of .ensures), (omega arith, omega arith)),
+    )
 
 check-commands-requires : tie.Need-check-commands-requires
 check-commands-requires c κs =

@@ -4,11 +4,6 @@ use Rattle.model.proofs.AssignLaws.{number-there, stays, strays}
 use borrow.Author.Needs.{needs}
 use Rattle.model.proofs.stays_in.Statement.{statement}
 use Rattle.model.proofs.stays_in.Tie as tie
-use Rattle.model.proofs.stays_in.Reads as reads
-use Rattle.model.proofs.stays_in.Lts as lts
-use Rattle.expressions.proofs.is_number.Reads as is-number-reads
-use Rattle.ranges.proofs.bound_at.Reads as bound-at-reads
-use Rattle.ranges.proofs.is_inside.Reads as is-inside-reads
 
 returns : tie.Need-returns
 returns c =
