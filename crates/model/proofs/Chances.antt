@@ -5,17 +5,21 @@ use mathlib.Core.Path.{_≡_, refl, sym, ap, _∙_, subst}
 use native.Mathlib.Decide.{decLt}
 use native.Mathlib.Omega.{arith}
 use borrow.Author.Tests.{lt-ltb, le-ltb}
+use mathlib.Core.List.{List}
 use lib.ListN.{length, List·getD-eq-default}
 use lib.IntN.{ℤ, pos}
 use Rattle.mdp.specs.Mdp.{Fair}
 use Rattle.mdp.proofs.SumLaws.{sum-more}
 use Rattle.folder.proofs.TabLaws.{length-tab, getD-tab}
+use Rattle.folder.specs.declared.Outcome.the-variants.{Accepted}
 use Rattle.expressions.specs.Meaning.{State, valueOf, numberIn}
 use Rattle.expressions.specs.Ranges.{span}
 use Rattle.expressions.proofs.Interval.{In, in-range, in-inside, in-one}
-use Rattle.model.specs.Model.{Model, bound, firstRecord}
+use Rattle.model.specs.Model.{Model, modelOf, bound, firstRecord}
 use Rattle.model.specs.Chances.{InRange, next, initialState, mdp}
 use Rattle.model.specs.Valid.{ModelRight}
+use Rattle.model.specs.Step.{stepOutcome}
+use Rattle.model.proofs.Decided.{step-valid}
 
 module _ (M : Model) where
   bound-here : (v : ℕ) → v < M .variables → bound M v ≡ span (M .low v) (M .high v)
@@ -61,3 +65,10 @@ module _ (M : Model) where
       low = λ v p. rw (getD-tab (pos 0) (M .variables) (M .initial) v p) (R .variables v p .initial-low);
       high = λ v p. rw (getD-tab (pos 0) (M .variables) (M .initial) v p) (R .variables v p .initial-high);
     }
+
+-- An accepted step's state is in range.
+pub step-in-range : (m : List ℕ) (s : State) (c b : ℕ) (result : List ℤ) → stepOutcome m s c b result ≡ Accepted → InRange (modelOf m) (next (modelOf m) c b s)
+step-in-range m s c b result e =
+    let v = step-valid m s c b result .0 e in
+    let r = v .1 in
+    next-in-range (modelOf m) (v .0 .model) c b (r .command) (r .branch) s (record { long = r .long; low = r .low; high = r .high })

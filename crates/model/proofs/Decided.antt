@@ -9,14 +9,16 @@ use native.Mathlib.Omega.{arith}
 use native.Mathlib.Nat.{not-suc-le-zero, le-of-suc-le-suc}
 use lib.ListN.{length}
 use lib.IntN.{ℤ}
+use lib.Signed.{_≤ℤ_}
 use Rattle.mdp.specs.Sums.{sum}
 use Rattle.folder.specs.Contents.{body}
 use Rattle.folder.specs.Table.{AllHold, Broken}
 use Rattle.folder.specs.declared.Refusal.{Refusal}
 use Rattle.folder.specs.declared.Outcome.the-variants.{Accepted, Refused}
-use Rattle.folder.proofs.Decides.{Decides, at-most, at-mostZ, same, unless, whenever, _∧also_, everywhere, reworded}
+use Rattle.folder.proofs.Decides.{Decides, passes, at-most, at-mostZ, below, same, unless, whenever, _∧also_, everywhere, reworded}
 use Rattle.folder.proofs.ContentsLaws.{entry-decided as contents-decided}
 use Rattle.folder.proofs.TableLaws.{refused-broken, row-asks, single-asks, _row-and_, no-rows, put-so, tables-ask, accepted-asks}
+use Rattle.expressions.specs.Meaning.{State, valueOf, truthIn}
 use Rattle.expressions.specs.Ranges.{rangeOf}
 use Rattle.expressions.specs.Right.{IsNumber, IsTruth, Inside}
 use Rattle.expressions.proofs.Decided.{number-decided, truth-decided, inside-decided, entry-decided, range-decided}
@@ -25,7 +27,8 @@ use Rattle.model.specs.Layout.{bodies, recordSize, recordCount, mostOf}
 use Rattle.model.specs.Model.{Model, modelOf, bound, firstRecord}
 use Rattle.model.specs.Rules.{bytesFit, recordsFit, variableFits, termsFit, commandFits, recordsAddUp, assignedFits, branchFits, weightsTotal}
 use Rattle.model.specs.Table.{folderRows, contentRows, modelRows, modelOutcome}
-use Rattle.model.specs.Valid.{RecordsRight, VariableRight, CommandRight, BranchRight, ModelRight, FolderRight, Valid}
+use Rattle.model.specs.Valid.{RecordsRight, VariableRight, CommandRight, BranchRight, ModelRight, FolderRight, Valid, StepRight}
+use Rattle.model.specs.Step.{valueFits, stepRows, stepOutcome}
 
 bytes-decided : (m : List ℕ) → Decides ((leastBytes ≤ length m) × (length m ≤ mostBytes)) (bytesFit m)
 bytes-decided m = at-most leastBytes (length m) ∧also at-most (length m) mostBytes
@@ -122,3 +125,39 @@ accepted-valid m = accepted-asks (model-asks m)
 pub refused-first : (m : List ℕ) (f : Refusal) → modelOutcome m ≡ Refused f → Broken (modelRows m) f
 unfolding modelOutcome
 refused-first m f e = refused-broken (modelRows m) f e
+
+-- ---- the step
+value-decided : (M : Model) (s : State) (c b : ℕ) (result : List ℤ) (v : ℕ)
+    → Decides ((M .low v ≤ℤ valueOf s v) × (valueOf s v ≤ℤ M .high v)) (valueFits M s c b result v)
+unfolding valueFits
+value-decided M s c b result v = at-mostZ (M .low v) (valueOf s v) ∧also at-mostZ (valueOf s v) (M .high v)
+
+step-asks : (M : Model) (s : State) (c b : ℕ) (result : List ℤ) → AllHold (stepRows M s c b result) ↔ StepRight M s c b result
+step-asks M s c b result = put-so
+    (single-asks 29 0 (same (length s) (M .variables) ∧also at-most (M .variables) (length result))
+    row-and row-asks _ (value-decided M s c b result)
+    row-and single-asks 31 c (below c (M .commands))
+    row-and single-asks 32 c (passes (truthIn (M .entries) s (M .guard c)))
+    row-and single-asks 33 b (below b (M .branches c))
+    row-and no-rows)
+    (λ h. record {
+      long = h .0 .0;
+      room = h .0 .1;
+      low = λ v l. h .1 .0 v l .0;
+      high = λ v l. h .1 .0 v l .1;
+      command = h .1 .1 .0;
+      enabled = h .1 .1 .1 .0;
+      branch = h .1 .1 .1 .1 .0;
+    })
+    (λ r. ((r .long, r .room), ((λ v l. (r .low v l, r .high v l)), (r .command, (r .enabled, (r .branch, tt))))))
+
+-- The step is accepted if and only if the model is and rows 29 to 33 hold.
+pub step-valid : (m : List ℕ) (s : State) (c b : ℕ) (result : List ℤ)
+    → (stepOutcome m s c b result ≡ Accepted) ↔ (Valid m × StepRight (modelOf m) s c b result)
+unfolding stepOutcome
+step-valid m s c b result = accepted-asks (tables-ask (modelRows m) (model-asks m) (step-asks (modelOf m) s c b result))
+
+pub step-refused : (m : List ℕ) (s : State) (c b : ℕ) (result : List ℤ) (f : Refusal)
+    → stepOutcome m s c b result ≡ Refused f → Broken (modelRows m ++ stepRows (modelOf m) s c b result) f
+unfolding stepOutcome
+step-refused m s c b result f e = refused-broken (modelRows m ++ stepRows (modelOf m) s c b result) f e

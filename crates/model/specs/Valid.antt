@@ -3,11 +3,14 @@
 use Prim.Native.Nat.{ℕ, _+_, _%_, _<_, _≤_}
 use mathlib.Core.Path.{_≡_}
 use mathlib.Core.Logic.{_≢_}
+use mathlib.Core.Bool.{true}
 use mathlib.Core.List.{List}
 use lib.ListN.{length}
+use lib.IntN.{ℤ}
 use lib.Signed.{_≤ℤ_}
 use Rattle.mdp.specs.Sums.{sum}
 use Rattle.folder.specs.Contents.{body, EntryRight as ContentsRight}
+use Rattle.expressions.specs.Meaning.{State, valueOf, truthIn}
 use Rattle.expressions.specs.Ranges.{rangeOf}
 use Rattle.expressions.specs.Right.{IsNumber, IsTruth, EntryRight, RangeRight, Inside}
 use Rattle.model.specs.Limits.{leastBytes, mostBytes, leastBound, mostBound, mostBranches}
@@ -64,3 +67,14 @@ pub record FolderRight (m : List ℕ) : Type 0 where
 pub record Valid (m : List ℕ) : Type 0 where
   pub folder : FolderRight m
   pub model : ModelRight (modelOf m)
+
+-- Rows 29 to 33: one value per variable and room for the result, values in range, a command that is there and enabled,
+-- and a branch of it.
+pub record StepRight (M : Model) (s : State) (c b : ℕ) (result : List ℤ) : Type 0 where
+  pub long : length s ≡ M .variables
+  pub room : M .variables ≤ length result
+  pub low : (v : ℕ) → v < M .variables → M .low v ≤ℤ valueOf s v
+  pub high : (v : ℕ) → v < M .variables → valueOf s v ≤ℤ M .high v
+  pub command : c < M .commands
+  pub enabled : truthIn (M .entries) s (M .guard c) ≡ true
+  pub branch : b < M .branches c

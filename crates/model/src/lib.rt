@@ -170,7 +170,7 @@ fn first_bad_command(m: &[u8], n: usize) -> usize
 }
 
 // The first branch record of command n, by the command body k.
-fn first_record(k: &[u8], n: usize) -> usize
+pub fn first_record(k: &[u8], n: usize) -> usize
     requires { ⌜ n ≤ 65536 ⌝ }
     ensures { λ r. ⌜ r ≡ firstRecord (modelIn [] [] [] (now (k .entry)) []) n ⌝ }
 {

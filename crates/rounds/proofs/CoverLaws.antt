@@ -1,25 +1,24 @@
 -- Covers: a node's source is a node that is not covered, so that figures can be copied in place; and the two passes
 -- together make a round.
 -- Assumes nothing.
-use Prim.Native.Nat.{ℕ, _+_, _≤_, _<_}
+use Prim.Native.Nat.{ℕ, _<_}
 use native.Mathlib.Decide.{ℕ-discrete, decLt}
 use native.Mathlib.Omega.{arith}
 use mathlib.Core.Path.{_≡_, refl, sym, ap, _∙_}
 use mathlib.Core.List.{List, _++_}
 use borrow.Author.Tests.{eq-eqb, ne-eqb}
 use lib.Dec.{eqb}
-use lib.ListN.{length, getD, drop}
-use Rattle.mdp.specs.Graph.{figure, round}
+use lib.ListN.{getD}
+use Rattle.mdp.specs.Graph.{round}
 use Rattle.folder.specs.Pick.{pick}
-use Rattle.folder.specs.Tab.{tab}
-use Rattle.folder.specs.Contents.{field}
+use Rattle.folder.specs.Contents.{body, field}
 use Rattle.folder.proofs.TabLaws.{tab-same}
+use Rattle.model.specs.Layout.{variableCount}
 use Rattle.model.specs.Model.{Model, modelOf}
-use Rattle.graph.specs.Simulation.{Simulation, simulationOf}
+use Rattle.graph.specs.Simulation.{nodeSize, Simulation, simulationOf}
 use Rattle.graph.specs.Valid.{Valid}
 use Rattle.rounds.specs.Rounds.{fill, source, ownStart, ownNext, nextRound, nodesOf, ownStartRow, ownNextRow, coverRow, startRow, nextRow}
 use Rattle.rounds.proofs.RoundLaws.{getD-filled, getD-kept, drop-filled, shared-source}
-use Rattle.rounds.proofs.NodeLaws.{Sized}
 
 module _ {m g : List ℕ} (A : Valid m g) where
   abbrev M : Model
@@ -44,10 +43,10 @@ module _ {m g : List ℕ} (A : Valid m g) where
       go (yes e) = rw (eq-eqb (G .kind n) 2 e, ne-eqb (G .kind (G .cover n)) 2 (A .graph .c3 n l e .1)) refl
       go (no h) = rw (ne-eqb (G .kind n) 2 h, ne-eqb (G .kind n) 2 h) refl
 
-  pub source-is : {size : ℕ} {nb : List ℕ} → Sized m g size nb → (n : ℕ) {kind cover s : ℕ} → kind ≡ field size nb n 0 → cover ≡ field size nb n 1
-      → s ≡ pick (eqb kind 2) cover n → s ≡ source G n
+  pub source-is : {size : ℕ} {nb : List ℕ} → size ≡ nodeSize (variableCount m) → nb ≡ body g 0 → (n : ℕ) {kind cover s : ℕ} → kind ≡ field size nb n 0
+      → cover ≡ field size nb n 1 → s ≡ pick (eqb kind 2) cover n → s ≡ source G n
   unfolding source
-  source-is S n p q e = e ∙ rw (p, q, S .size-is, S .nodes-in) refl
+  source-is z b n p q e = e ∙ rw (p, q, z, b) refl
 
   -- The nodes before n took theirs already, and n's source still stands.
   pub source-stands : (d : List ℕ) (n : ℕ) {s : ℕ} {row : List ℕ} → n < G .nodes → s ≡ source G n → row ≡ fill n (λ k. getD d (source G k) 0) d

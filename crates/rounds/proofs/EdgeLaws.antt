@@ -1,10 +1,10 @@
 -- Laws of an edge's weighted sum, and of the walk over a node's edges.
 -- Assumes nothing.
-use Prim.Native.Nat.{ℕ, suc, _+_, _*_, _≤_, _<_, max}
-use mathlib.Core.Path.{_≡_, refl, sym, ap, _∙_}
+use Prim.Native.Nat.{ℕ, _+_, _*_, _<_, max}
+use mathlib.Core.Path.{_≡_, refl, _∙_}
 use mathlib.Core.List.{List}
 use native.Mathlib.Numerals.{add-one}
-use lib.ListN.{length, getD}
+use lib.ListN.{getD}
 use Rattle.mdp.specs.Sums.{sum, greatest}
 use Rattle.folder.specs.Fields.{u16}
 use Rattle.folder.specs.Contents.{field}

@@ -2,7 +2,6 @@
 -- once two rounds in a row are equal all later ones are.
 -- Assumes nothing.
 use Prim.Native.Nat.{ℕ, zero, suc, _+_, _-_, _*_, _/_, _≤_, _<_}
-use native.Mathlib.Numerals.{add-one}
 use native.Mathlib.Omega.{arith}
 use mathlib.Core.Path.{_≡_, refl, sym, ap, _∙_}
 use mathlib.Core.Bool.{Bool, true, false}
@@ -11,9 +10,8 @@ use mathlib.Core.Logic.{⊎-elim}
 use native.Mathlib.Nat.{eq-or-lt-of-le, le-of-suc-le-suc}
 use lib.Dec.{eqb}
 use lib.ListN.{length, getD, length-append, List·getD-append}
-use Rattle.mdp.specs.Sums.{greatest}
 use Rattle.mdp.specs.Kinds.{Kind, waiting, expanded, covered, target}
-use Rattle.mdp.specs.Graph.{along, start, again, shared, round, up, figure}
+use Rattle.mdp.specs.Graph.{along, again, round, up, figure}
 use Rattle.mdp.proofs.SumLaws.{sum-eq}
 use Rattle.folder.specs.Pick.{pick}
 use Rattle.folder.specs.Tab.{tab}
@@ -24,7 +22,7 @@ use Rattle.graph.specs.Limits.{units}
 use Rattle.graph.specs.Simulation.{Simulation, graph, kindOf, simulationOf}
 use Rattle.graph.specs.Figures.{figures}
 use Rattle.graph.specs.Valid.{Valid}
-use Rattle.rounds.specs.Rounds.{Round, figureBy, source, ownStart, ownNext, nextRound, nodesOf}
+use Rattle.rounds.specs.Rounds.{Round, figureBy, source, ownStart, ownNext, nextRound}
 use Rattle.rounds.proofs.RoundLaws.{up-small, own-start, own-next, shared-source}
 use Rattle.rounds.proofs.ModelLaws.{greatest-eq, best-small}
 use Rattle.rounds.proofs.NodeLaws.{some-total}
@@ -98,7 +96,7 @@ module _ {m g : List ℕ} (A : Valid m g) where
 
   -- A row that begins with round k holds it, and gives the next one.
   module _ (k : ℕ) (rest : List ℕ) where
-    begins : (n : ℕ) → n < G .nodes → getD (figures M G k ++ rest) n 0 ≡ fig k n
+    pub begins : (n : ℕ) → n < G .nodes → getD (figures M G k ++ rest) n 0 ≡ fig k n
     begins n l = List·getD-append (figures M G k) rest 0 n (rw (figures-long k) l) ∙ figures-hold k n l
 
     pub round-held : Round (G .nodes) (figures M G k ++ rest)
@@ -107,6 +105,10 @@ module _ {m g : List ℕ} (A : Valid m g) where
     pub figures-next : tab (G .nodes) (nextRound M G (figures M G k ++ rest)) ≡ figures M G (suc k)
     unfolding figures
     figures-next = tab-same (G .nodes) _ _ (figure-next k (figures M G k ++ rest) begins)
+
+  pub figures-same : (i j : ℕ) → ((n : ℕ) → n < G .nodes → fig i n ≡ fig j n) → figures M G i ≡ figures M G j
+  unfolding figures
+  figures-same i j e = tab-same (G .nodes) _ _ e
 
   -- Once round k is the one after it too, it is every later one.
   module _ (k : ℕ) (e : figures M G (suc k) ≡ figures M G k) where

@@ -1,28 +1,26 @@
 -- What an accepted graph gives the walk over its edges: each edge is ready, the walk goes as the graph's definition says,
 -- and its greatest sum is the definition's, which divided by D is at most certainty.
 -- Assumes nothing.
-use Prim.Native.Nat.{ℕ, zero, suc, _+_, _-_, _*_, _/_, _≤_, _<_}
-use native.Mathlib.Nat.{div-lt-iff-lt-mul, div-mul-le-self}
+use Prim.Native.Nat.{ℕ, zero, suc, _+_, _-_, _*_, _≤_, _<_}
 use native.Mathlib.Numerals.{add-one}
 use native.Mathlib.Omega.{arith}
-use mathlib.Core.Path.{_≡_, refl, sym, ap, _∙_, subst}
+use mathlib.Core.Path.{_≡_, refl, ap}
 use mathlib.Core.List.{List}
 use borrow.Author.Tests.{leb-true}
 use lib.ListN.{length, getD}
-use Rattle.mdp.specs.Sums.{sum, greatest}
+use Rattle.mdp.specs.Sums.{greatest}
 use Rattle.mdp.specs.Graph.{along}
 use Rattle.mdp.proofs.SumLaws.{sum-eq, weighed, greatest-below}
 use Rattle.folder.specs.Fields.{u16}
 use Rattle.folder.specs.Contents.{body, countOf, field}
 use Rattle.model.specs.Model.{Model, modelOf, firstRecord}
 use Rattle.model.specs.Chances.{mdp}
-use Rattle.model.specs.Layout.{recordSize, recordCount}
 use Rattle.model.specs.Valid as Models
 use Rattle.model.proofs.Chances.{record-there}
 use Rattle.graph.specs.Limits.{units}
 use Rattle.graph.specs.Simulation.{Simulation, edgeSize, edgeAfter, edgesStart, edgeWhole, edgeAt, nodeField, simulationOf, graph}
 use Rattle.graph.specs.Valid.{EdgeRight}
-use Rattle.rounds.specs.Edges.{sumAt, EdgeFits, after, EdgeReady, EdgesReady, sumOf, bestOf}
+use Rattle.rounds.specs.Edges.{sumAt, after, EdgeReady, EdgesReady, sumOf, bestOf}
 use Rattle.rounds.specs.Rounds.{Tables, Round}
 
 -- The walk is the graph's.

@@ -1,23 +1,25 @@
 -- The two rows after k rounds: by k's parity, what a turn makes of them, and what they hold once rounds are equal.
 -- Assumes nothing.
-use Prim.Native.Nat.{ℕ, zero, suc, _+_, _-_, _%_, _≤_, _<_}
+use Prim.Native.Nat.{ℕ, suc, _+_, _-_, _%_, _≤_, _<_}
 use native.Mathlib.Nat.{eq-zero-or-pos, add-sub-cancel}
 use native.Mathlib.Numerals.{add-one}
 use native.Mathlib.Omega.{arith}
 use mathlib.Core.Path.{_≡_, refl, sym, ap, _∙_}
 use mathlib.Core.Logic.{_⊎_, inl, inr, ⊎-elim}
+use mathlib.Core.Bool.{Bool, true, false}
 use mathlib.Core.List.{List, _++_}
-use borrow.Author.Tests.{eq-eqb, ne-eqb}
-use lib.ListN.{length, drop}
+use borrow.Author.Tests.{eq-eqb, ne-eqb, eqb-true}
+use lib.ListN.{getD, drop}
 use lib.Seq.{drop-at}
-use Rattle.folder.specs.Tab.{tab}
-use Rattle.model.specs.Model.{Model, modelOf}
-use Rattle.graph.specs.Simulation.{Simulation, simulationOf}
+use Rattle.folder.specs.Pick.{pick}
+use Rattle.folder.proofs.ScanLaws.{all-true}
+use Rattle.model.specs.Model.{modelOf}
+use Rattle.graph.specs.Simulation.{simulationOf}
 use Rattle.graph.specs.Figures.{figures}
 use Rattle.graph.specs.Valid.{Valid}
-use Rattle.rounds.specs.Rounds.{Round, nodesOf, startRow, nextRow, nextRound, firstAt, secondAt, turnFirst, turnSecond, heldIn}
+use Rattle.rounds.specs.Rounds.{Round, nodesOf, startRow, nextRow, firstAt, secondAt, turnFirst, turnSecond, heldIn, sameFirst}
 use Rattle.rounds.proofs.RoundLaws.{drop-filled}
-use Rattle.rounds.proofs.FigureLaws.{figures-long, figures-next, round-held}
+use Rattle.rounds.proofs.FigureLaws.{figures-long, begins, round-held, figures-next, figures-same, settled}
 
 parity : (k : ℕ) → (k % 2 ≡ 0) ⊎ (k % 2 ≡ 1)
 parity k = ⊎-elim (λ h. inl h) (λ h. inr (omega arith)) (eq-zero-or-pos (k % 2))
@@ -100,3 +102,58 @@ module _ {m g : List ℕ} (A : Valid m g) where
 
     pub begun : a ≡ firstAt m g 0 a
     begun = p ∙ start-first r ∙ sym (after-start 0)
+
+  -- ---- equal rounds
+  module _ (k : ℕ) (e : figures (modelOf m) (simulationOf (modelOf m) g) (suc k) ≡ figures (modelOf m) (simulationOf (modelOf m) g) k) (r : List ℕ) where
+    same-holding : (j : ℕ) → k ≤ j → holding j r ≡ holding k r
+    same-holding j l = rw (settled A k e j l) refl
+
+    first-settled : (j : ℕ) → k < j → firstAt m g j r ≡ holding k r
+    first-settled j l = ⊎-elim
+        (λ p. first-even j r p ∙ same-holding j (omega arith))
+        (λ p. first-odd j r p ∙ same-holding (j - 1) (omega arith))
+        (parity j)
+
+    second-settled : (j : ℕ) → k < j → secondAt m g j r ≡ holding k r
+    second-settled j l = ⊎-elim
+        (λ p. second-even j r (omega arith) p ∙ same-holding (j - 1) (omega arith))
+        (λ p. second-odd j r p ∙ same-holding j (omega arith))
+        (parity j)
+
+  alike-rounds : (i j : ℕ) (r s : List ℕ) {a b : List ℕ} → a ≡ holding i r → b ≡ holding j s → sameFirst (nodesOf m g) a b ≡ true
+      → figures (modelOf m) (simulationOf (modelOf m) g) i ≡ figures (modelOf m) (simulationOf (modelOf m) g) j
+  unfolding sameFirst
+  alike-rounds i j r s p q t = figures-same A i j (λ n l.
+      sym (begins A i (drop (nodesOf m g) r) n l)
+      ∙ ap (λ (row : List ℕ). getD row n 0) (sym p)
+      ∙ eqb-true _ _ (all-true _ (nodesOf m g) t n l)
+      ∙ ap (λ (row : List ℕ). getD row n 0) q
+      ∙ begins A j (drop (nodesOf m g) s) n l)
+
+  -- The rows a and b, after k + 1 rounds, are what they are after x, which is later than k and at most h.
+  pub record Reached (k x h : ℕ) (r s a b : List ℕ) : Type 0 where
+    pub later : k < x
+    pub within : x ≤ h
+    pub first : a ≡ firstAt m g x r
+    pub second : b ≡ secondAt m g x s
+
+  module _ (k h : ℕ) (r s : List ℕ) {a b : List ℕ} (p : a ≡ firstAt m g (k + 1) r) (q : b ≡ secondAt m g (k + 1) s) (l : k < h) where
+    equal-rounds : sameFirst (nodesOf m g) a b ≡ true → figures (modelOf m) (simulationOf (modelOf m) g) (suc k) ≡ figures (modelOf m) (simulationOf (modelOf m) g) k
+    equal-rounds t = ⊎-elim
+        (λ e. sym (alike-rounds k (suc k) r s (p ∙ rw (first-odd (k + 1) r (omega arith), add-sub-cancel) refl) (q ∙ rw (second-odd (k + 1) s (omega arith), add-one) refl) t))
+        (λ e. alike-rounds (suc k) k r s (p ∙ rw (first-even (k + 1) r (omega arith), add-one) refl) (q ∙ rw (second-even (k + 1) s (omega arith) (omega arith), add-sub-cancel) refl) t)
+        (parity k)
+
+    reached-by : (t : Bool) → sameFirst (nodesOf m g) a b ≡ t → {x : ℕ} → x ≡ pick t h (k + 1) → Reached k x h r s a b
+    reached-by true e i =
+        let f = equal-rounds e in
+        rw i (record {
+          later = l;
+          within = omega arith;
+          first = p ∙ first-settled k f r (k + 1) (omega arith) ∙ sym (first-settled k f r h l);
+          second = q ∙ second-settled k f s (k + 1) (omega arith) ∙ sym (second-settled k f s h l);
+        })
+    reached-by false e i = rw i (record { later = omega arith; within = omega arith; first = p; second = q })
+
+    pub reached-is : {n x : ℕ} → n ≡ nodesOf m g → x ≡ pick (sameFirst n a b) h (k + 1) → Reached k x h r s a b
+    reached-is e i = reached-by (sameFirst (nodesOf m g) a b) refl (rw e at i)

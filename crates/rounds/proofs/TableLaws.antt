@@ -2,14 +2,13 @@
 -- Assumes nothing.
 use Prim.Native.Nat.{ℕ, _+_, _≤_, _<_}
 use native.Mathlib.Nat.{not-suc-le-zero}
-use native.Mathlib.Omega.{arith}
 use mathlib.Core.Path.{_≡_, refl, _∙_}
 use mathlib.Core.List.{List}
 use borrow.Author.Count.{below-more}
 use lib.ListN.{length}
 use Rattle.folder.specs.Contents.{body, field, countOf}
 use Rattle.model.specs.Layout.{variableCount, branchSize}
-use Rattle.model.specs.Model.{Model, modelOf}
+use Rattle.model.specs.Model.{modelOf}
 use Rattle.rounds.specs.Rounds.{Tables, weightIn, firstIn, Light, fill}
 use Rattle.rounds.proofs.EdgeLaws.{sum-next}
 use Rattle.rounds.proofs.RoundLaws.{getD-filled, length-fill}

@@ -39,6 +39,7 @@ module _ (cs eb : List ℕ) where
     pub record EdgesReady (nodes k count : ℕ) : Type 0 where
       pub each : (e : ℕ) → e < count → EdgeReady nodes (after k e)
 
+    -- The sum of the edge at k.
     unfoldable pub sumOf : List ℕ → ℕ → ℕ
     sumOf row k = sumAt weights row eb (getD firsts (u16 eb k) 0) (field 4 cs (u16 eb k) 1) k
 

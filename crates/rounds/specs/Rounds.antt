@@ -2,6 +2,7 @@
 -- Assumes nothing.
 use Prim.Native.Nat.{ℕ, _+_, _-_, _/_, _≤_, _<_}
 use mathlib.Core.Path.{_≡_}
+use mathlib.Core.Bool.{Bool}
 use mathlib.Core.List.{List, _++_}
 use lib.ListN.{length, getD, drop}
 use lib.Dec.{eqb}
@@ -9,12 +10,14 @@ use Rattle.mdp.specs.Sums.{sum}
 use Rattle.mdp.specs.Graph.{start, again, shared, up, figure}
 use Rattle.folder.specs.Pick.{pick}
 use Rattle.folder.specs.Tab.{tab}
+use Rattle.folder.specs.Scan.{all}
 use Rattle.folder.specs.Contents.{field}
 use Rattle.folder.specs.declared.Outcome.the-variants.{Accepted}
+use Rattle.model.specs.Layout.{variableCount}
 use Rattle.model.specs.Model.{Model, modelOf, firstRecord}
 use Rattle.model.specs.Chances.{mdp}
-use Rattle.graph.specs.Limits.{units}
-use Rattle.graph.specs.Simulation.{Simulation, graph, kindOf, nodeCount, simulationOf}
+use Rattle.graph.specs.Limits.{units, mostNodes}
+use Rattle.graph.specs.Simulation.{Simulation, graph, kindOf, nodeSize, nodeCount, simulationOf}
 use Rattle.graph.specs.Figures.{firstOf, secondOf, inFirst}
 
 -- The tables that a round reads: each branch record's weight, and each command's first branch record.
@@ -70,6 +73,13 @@ module _ (m g : List ℕ) where
   abbrev pub nodesOf : ℕ
   nodesOf = nodeCount (modelOf m) g
 
+  -- The bytes of a node and how many there are, as the code has them.
+  pub record Shaped (size nodes : ℕ) : Type 0 where
+    pub size-is : size ≡ nodeSize (variableCount m)
+    pub nodes-are : nodes ≡ nodesOf
+    pub small : size ≤ 65536
+    pub few : nodes ≤ mostNodes
+
   abbrev pub ownStartRow : List ℕ → List ℕ
   ownStartRow row = fill nodesOf (ownStart (modelOf m) (simulationOf (modelOf m) g)) row
 
@@ -104,3 +114,10 @@ module _ (m g : List ℕ) where
 -- The row that holds round k.
 unfoldable pub heldIn : ℕ → List ℕ → List ℕ → List ℕ
 heldIn k a b = pick (inFirst k) a b
+
+-- Element i is the same in both rows; and so are the first n.
+abbrev pub alike : List ℕ → List ℕ → ℕ → Bool
+alike a b i = eqb (getD a i 0) (getD b i 0)
+
+unfoldable pub sameFirst : ℕ → List ℕ → List ℕ → Bool
+sameFirst n a b = all (alike a b) n

@@ -1,21 +1,29 @@
 // Figures: sums over edges, and the rounds over two rows that the caller lends.
 ghost use mathlib.Core.Path.{_≡_};
-ghost use Prim.Native.Nat.{ℕ, _+_, _*_, _<_, _≤_, _^_, max};
-ghost use lib.ListN.{getD, length};
+ghost use Prim.Native.Nat.{_+_, _-_, _*_, _/_, _<_, _≤_, _^_, max};
+ghost use lib.ListN.{length};
 ghost use lib.Dec.{eqb};
 ghost use Rattle.folder.specs.Fields.{u16};
 ghost use Rattle.folder.specs.Contents.{field, countOf};
 ghost use Rattle.folder.specs.Pick.{pick};
+ghost use Rattle.folder.specs.Scan.{firstBad};
 ghost use Rattle.folder.specs.declared.Outcome.the-variants.{Accepted};
-ghost use Rattle.model.specs.Limits.{mostVariables};
 ghost use Rattle.model.specs.Layout.{variableCount};
 ghost use Rattle.model.specs.Model.{modelOf};
 ghost use Rattle.graph.specs.Limits.{units};
-ghost use Rattle.graph.specs.Simulation.{nodeSize, simulationOf};
+ghost use Rattle.graph.specs.Simulation.{simulationOf};
 ghost use Rattle.graph.specs.Figures.{firstOf, secondOf};
 ghost use Rattle.graph.specs.Valid.{Valid};
 ghost use Rattle.rounds.specs.Edges.{sumAt, EdgeFits, after, EdgesReady, bestOf};
-ghost use Rattle.rounds.specs.Rounds.{Tables, weightIn, firstIn, Light, Round, fill, figureBy, nodesOf, ownStartRow, ownNextRow, coverRow, startRow, nextRow, firstAt, secondAt, turnFirst, turnSecond, heldIn};
+ghost use Rattle.rounds.specs.Rounds.{Tables, weightIn, firstIn, Light, Round, fill, figureBy, nodesOf, Shaped, ownStartRow, ownNextRow, coverRow, startRow, nextRow, firstAt, secondAt, turnFirst, turnSecond, heldIn, alike, sameFirst};
+
+// Certainty.
+const UNITS: u32 = 1000000000;
+
+// At most so many commands and branch records.
+const MOST_COMMANDS: usize = 64;
+
+const MOST_RECORDS: usize = 1024;
 
 fn pair(low: u8, high: u8) -> usize
     ensures { λ r. ⌜ (r ≡ low + high * 256) × (r < 65536) ⌝ }
@@ -74,13 +82,14 @@ fn branches_of(cs: &[u8], c: usize) -> usize
     u16_in(cs, 4 * c + 2)
 }
 
-// Of a node's edges: the greatest sum, and where the next node's edges start.
+// Of a node's edges: the greatest sum, or 0, and where the next node's edges start.
 pub struct Best {
     pub greatest: usize,
     pub next: usize,
 }
 
-fn best_of(
+// Over `count` edges from `at` on.
+pub fn best_of(
     cs: &[u8],
     eb: &[u8],
     weights: &[usize],
@@ -122,11 +131,28 @@ fn variable_count(m: &[u8]) -> usize
     folder::count_of(6, folder::body(m, 1))
 }
 
-fn node_size(m: &[u8]) -> usize
-    requires { ⌜ variableCount (now m) ≤ mostVariables ⌝ }
-    ensures { λ r. ⌜ (r ≡ nodeSize (variableCount (now (m .entry)))) × (0 < r) × (r ≤ 65536) ⌝ }
+// Of a graph: the bytes of a node, and how many nodes there are.
+struct Shape {
+    size: usize,
+    nodes: usize,
+}
+
+fn shape_of(m: &[u8], g: &[u8]) -> Shape
+    requires { ⌜ Valid (now m) (now g) ⌝ }
+    ensures { λ r. ⌜ Shaped (now (m .entry)) (now (g .entry)) (r .size) (r .nodes) ⌝ }
 {
-    12 + 4 * variable_count(m)
+    let size = 12 + 4 * variable_count(m);
+    let nodes = folder::count_of(size, folder::body(g, 0));
+    Shape { size, nodes }
+}
+
+// Divided once, and rounded up.
+fn up(x: usize, d: usize) -> usize
+    requires { ⌜ (0 < d) × (x + d < 2 ^ 64) ⌝ }
+    ensures { λ r. ⌜ r ≡ (x + (d - 1)) / d ⌝ }
+{
+    let over = d - 1;
+    (x + over) / d
 }
 
 // The figure of a node that is not covered, from the greatest sum over its edges; a covered one is 0 for now.
@@ -135,12 +161,12 @@ fn figure_by(kind: usize, best: usize, d: usize) -> u32
     ensures { λ r. ⌜ r ≡ figureBy kind best d ⌝ }
 {
     if kind == 1 {
-        return ((best + (d - 1)) / d) as u32;
+        return up(best, d) as u32;
     }
     if kind == 2 {
         return 0;
     }
-    1000000000
+    UNITS
 }
 
 // A round's figures of the nodes that are not covered, from the row `src` of the last round.
@@ -151,12 +177,13 @@ fn fill_next(m: &[u8], g: &[u8], weights: &[usize], firsts: &[usize], src: &[u32
     requires { ⌜ nodesOf (now m) (now g) ≤ length (now dst) ⌝ }
     ensures { λ _. ⌜ now (dst .exit) ≡ ownNextRow (now (m .entry)) (now (g .entry)) (now (src .entry)) (now (dst .entry)) ⌝ }
 {
-    let size = node_size(m);
+    let shape = shape_of(m, g);
+    let size = shape.size;
+    let nodes = shape.nodes;
     let d = total_of(m);
     let cs = folder::body(m, 3);
     let nb = folder::body(g, 0);
     let eb = folder::body(g, 1);
-    let nodes = folder::count_of(size, nb);
     let mut at = 0;
     let mut n = 0;
     while n < nodes {
@@ -175,9 +202,10 @@ fn fill_start(m: &[u8], g: &[u8], dst: &mut [u32])
     requires { ⌜ nodesOf (now m) (now g) ≤ length (now dst) ⌝ }
     ensures { λ _. ⌜ now (dst .exit) ≡ ownStartRow (now (m .entry)) (now (g .entry)) (now (dst .entry)) ⌝ }
 {
-    let size = node_size(m);
+    let shape = shape_of(m, g);
+    let size = shape.size;
+    let nodes = shape.nodes;
     let nb = folder::body(g, 0);
-    let nodes = folder::count_of(size, nb);
     let mut n = 0;
     while n < nodes {
         let kind = folder::field(size, nb, n, 0);
@@ -199,9 +227,10 @@ fn fill_covers(m: &[u8], g: &[u8], dst: &mut [u32])
     requires { ⌜ nodesOf (now m) (now g) ≤ length (now dst) ⌝ }
     ensures { λ _. ⌜ now (dst .exit) ≡ coverRow (now (m .entry)) (now (g .entry)) (now (dst .entry)) ⌝ }
 {
-    let size = node_size(m);
+    let shape = shape_of(m, g);
+    let size = shape.size;
+    let nodes = shape.nodes;
     let nb = folder::body(g, 0);
-    let nodes = folder::count_of(size, nb);
     let mut n = 0;
     while n < nodes {
         let kind = folder::field(size, nb, n, 0);
@@ -286,7 +315,31 @@ fn turn(
     }
 }
 
-// Round 0, then h turns.
+// The lowest of the first n elements in which the rows differ, or n.
+fn first_unlike(n: usize, a: &[u32], b: &[u32]) -> usize
+    requires { ⌜ (n ≤ length (now a)) × (n ≤ length (now b)) ⌝ }
+    ensures { λ r. ⌜ r ≡ firstBad (alike (now (a .entry)) (now (b .entry))) n ⌝ }
+{
+    let mut i = 0;
+    while i < n {
+        if a[i] == b[i] {
+            i += 1;
+        } else {
+            return i;
+        }
+    }
+    i
+}
+
+// The round that the rows have come to, of h: k, unless both hold the same figures. Then every later round is the same.
+fn reached(n: usize, a: &[u32], b: &[u32], k: usize, h: usize) -> usize
+    requires { ⌜ (n ≤ length (now a)) × (n ≤ length (now b)) ⌝ }
+    ensures { λ r. ⌜ r ≡ pick (sameFirst n (now (a .entry)) (now (b .entry))) h k ⌝ }
+{
+    if first_unlike(n, a, b) == n { h } else { k }
+}
+
+// Round 0, then a turn for each round until h, or until rounds are equal.
 fn turns(
     m: &[u8],
     g: &[u8],
@@ -302,11 +355,13 @@ fn turns(
     ensures { λ _. ⌜ now (first .exit) ≡ firstAt (now (m .entry)) (now (g .entry)) h (now (first .entry)) ⌝ }
     ensures { λ _. ⌜ now (second .exit) ≡ secondAt (now (m .entry)) (now (g .entry)) h (now (second .entry)) ⌝ }
 {
+    let shape = shape_of(m, g);
+    let nodes = shape.nodes;
     start_round(m, g, first);
     let mut k = 0;
     while k < h {
         turn(m, g, weights, firsts, k, first, second);
-        k += 1;
+        k = reached(nodes, first, second, k + 1, h);
     }
 }
 
@@ -317,8 +372,8 @@ pub fn run_rounds(m: &[u8], g: &[u8], h: usize, first: &mut [u32], second: &mut 
     ensures { λ _. ⌜ now (first .exit) ≡ firstOf (modelOf (now (m .entry))) (simulationOf (modelOf (now (m .entry))) (now (g .entry))) h Accepted (now (first .entry)) ⌝ }
     ensures { λ _. ⌜ now (second .exit) ≡ secondOf (modelOf (now (m .entry))) (simulationOf (modelOf (now (m .entry))) (now (g .entry))) h Accepted (now (second .entry)) ⌝ }
 {
-    let mut weights = [0usize; 1024];
-    let mut firsts = [0usize; 64];
+    let mut weights = [0usize; MOST_RECORDS];
+    let mut firsts = [0usize; MOST_COMMANDS];
     fill_weights(2 + 2 * variable_count(m), folder::body(m, 4), &mut weights);
     fill_firsts(folder::body(m, 3), &mut firsts);
     turns(m, g, &weights, &firsts, h, first, second);

@@ -10,12 +10,12 @@ use Rattle.rounds.proofs.figure_by.Tie as tie
 
 cast-result : tie.Need-cast-result
 cast-result c =
-    let a = c .before .args in
-    omega (arith, up-small (a .d) (a .best) units (c .before .pre .0) (c .before .pre .2))
+    let s = c .before .before in
+    omega (arith, c .up .ensures, up-small (s .args .d) (s .args .best) units (s .pre .0) (s .pre .2))
 
 returns : tie.Need-returns
 unfolding figureBy
-returns c = rw (eq-eqb _ _ (c .if1 .taken)) refl
+returns c = rw (eq-eqb _ _ (c .before .if1 .taken)) (c .up .ensures)
 
 returns-2 : tie.Need-returns-2
 unfolding figureBy
@@ -26,5 +26,4 @@ unfolding figureBy
 returns-3 c = rw (ne-eqb _ _ (c .before .if1 .left), ne-eqb _ _ (c .if2 .left)) refl
 
 pub figure-by-spec : {M : Type 1} → statement M
-figure-by-spec =
-    tie.close (tie.spec (λ c. search needs) (λ c. search needs) (λ c. search needs) cast-result returns returns-2 returns-3)
+figure-by-spec = tie.close (tie.spec (λ c κs. search needs) cast-result returns returns-2 returns-3)

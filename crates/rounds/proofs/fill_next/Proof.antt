@@ -1,8 +1,8 @@
 use denote.Ref.{now}
 use Rattle.rounds.proofs.RoundLaws.{fill-none, fill-more}
-use Rattle.rounds.proofs.NodeLaws.{Parts, nodes-are, few-variables, some-total, starts-none, node-ready, node-next, node-small, node-figure}
+use Rattle.rounds.proofs.NodeLaws.{Parts, some-total, starts-none, node-ready, node-next, node-small, node-figure}
 use Prim.Native.Nat.{_≤_, _<_, _-_}
-use mathlib.Core.Path.{_≡_, _∙_, ap, refl}
+use mathlib.Core.Path.{_≡_, _∙_, refl}
 use lib.ListN.{length, length-set}
 use Rattle.folder.specs.Contents.{body}
 use Rattle.model.specs.Model.{modelOf}
@@ -14,66 +14,49 @@ use Rattle.rounds.proofs.fill_next.Statement.{statement}
 use Rattle.rounds.proofs.fill_next.Tie as tie
 
 abbrev Inv-loop : tie.InvT-loop
-Inv-loop m g weights firsts src dst₀ size d cs nb eb nodes at₀ n₀ dst at n = (n ≤ nodes) × (at ≡ edgesStart (modelOf m) (body g 1) (λ i. nodeField (modelOf m) g i 4) n) × (dst ≡ fill n (ownNext (modelOf m) (simulationOf (modelOf m) g) src) dst₀) × (length dst ≡ length dst₀)
+Inv-loop m g weights firsts src dst₀ size nodes d cs nb eb at₀ n₀ dst at n = (n ≤ nodes) × (at ≡ edgesStart (modelOf m) (body g 1) (λ i. nodeField (modelOf m) g i 4) n) × (dst ≡ fill n (ownNext (modelOf m) (simulationOf (modelOf m) g) src) dst₀) × (length dst ≡ length dst₀)
 
 abbrev μ-loop : tie.MeasureT-loop
-μ-loop m g weights firsts src dst₀ size d cs nb eb nodes at₀ n₀ dst at n = nodes - n
+μ-loop m g weights firsts src dst₀ size nodes d cs nb eb at₀ n₀ dst at n = nodes - n
 
--- What the code has read before the loop, and how many nodes there are.
-parts : (c : tie.After-count-of Inv-loop μ-loop)
-    → Parts (now (c .before .before .before .before .before .before .before .before .before .before .before .before .args .m)) (now (c .before .before .before .before .before .before .before .before .before .before .before .before .args .g)) (c .before .before .before .before .before .node-size .result) (c .before .before .before .before .total-of .result) (now (c .before .before .before .body .result)) (now (c .before .before .body2 .result)) (now (c .before .body3 .result))
+-- What the code has read before the loop.
+parts : (c : tie.After-body3 Inv-loop μ-loop)
+    → Parts (now (c .before .before .before .before .before .before .before .before .before .before .before .args .m)) (now (c .before .before .before .before .before .before .before .before .before .before .before .args .g)) (c .before .before .before .before .shape-of .result .size) (c .before .before .before .total-of .result) (now (c .before .before .body .result)) (now (c .before .body2 .result)) (now (c .body3 .result))
 parts c = record {
-  sized = record { size-is = c .before .before .before .before .before .node-size .ensures .0; nodes-in = c .before .before .body2 .ensures };
-  total = c .before .before .before .before .total-of .ensures .0;
-  commands = c .before .before .before .body .ensures;
-  edges = c .before .body3 .ensures;
+  size-is = c .before .before .before .before .shape-of .ensures .size-is;
+  total = c .before .before .before .total-of .ensures .0;
+  commands = c .before .before .body .ensures;
+  nodes = c .before .body2 .ensures;
+  edges = c .body3 .ensures;
 }
 
-count : (c : tie.After-count-of Inv-loop μ-loop) → c .count-of .result ≡ nodesOf (now (c .before .before .before .before .before .before .before .before .before .before .before .before .args .m)) (now (c .before .before .before .before .before .before .before .before .before .before .before .before .args .g))
-count c = nodes-are (parts c .sized) (c .count-of .ensures)
-
-few : (c : tie.After-count-of Inv-loop μ-loop) → c .count-of .result ≤ 4096
-few c = omega (arith, count c, c .before .before .before .before .before .before .before .before .before .before .before .before .pre .0 .folder .few)
-
-node-size-requires : tie.Need-node-size-requires Inv-loop μ-loop
-node-size-requires c κs = few-variables (c .before .before .before .before .before .before .pre .0)
-
 loop-holds : tie.Need-loop-holds Inv-loop μ-loop
-loop-holds c = (omega arith, starts-none (c .before .before .before .before .before .before .before .before .before .before .before .before .pre .0), fill-none _ _, refl)
-
-field-requires : tie.Need-field-requires Inv-loop μ-loop
-field-requires c κs = omega (arith, few (c .before .before), c .before .before .before .before .before .before .before .node-size .ensures .2)
-
-field-requires-2 : tie.Need-field-requires-2 Inv-loop μ-loop
-field-requires-2 c κs = omega (arith, few (c .before .before .before), c .before .before .before .before .before .before .before .before .node-size .ensures .2)
+loop-holds c = (omega arith, starts-none (c .before .before .before .before .before .before .before .before .before .before .before .pre .0), fill-none _ _, refl)
 
 best-of-requires : tie.Need-best-of-requires Inv-loop μ-loop
 best-of-requires c κs =
-    let s = c .before .before .before .before .before .before .before .before .before .before .before .before .before .before .before .before in
+    let s = c .before .before .before .before .before .before .before .before .before .before .before .before .before .before .before in
     let l = c .before .before .before .loop in
-    node-ready (s .pre .0) (parts (c .before .before .before .before)) (s .pre .1 .0) (omega (arith, count (c .before .before .before .before))) (l .inv .1) (c .field2 .ensures .0) _ (s .pre .1 .1 .0 .long)
+    node-ready (s .pre .0) (parts (c .before .before .before .before)) (s .pre .1 .0) (omega (arith, c .before .before .before .before .before .before .before .before .shape-of .ensures)) (l .inv .1) (c .field2 .ensures .0) _ (s .pre .1 .1 .0 .long)
 
 figure-by-requires : tie.Need-figure-by-requires Inv-loop μ-loop
 figure-by-requires c κs =
-    let s = c .before .before .before .before .before .before .before .before .before .before .before .before .before .before .before .before .before in
+    let s = c .before .before .before .before .before .before .before .before .before .before .before .before .before .before .before .before in
     let l = c .before .before .before .before .loop in
-    let t = c .before .before .before .before .before .before .before .before .before .total-of .ensures in (
+    let t = c .before .before .before .before .before .before .before .before .total-of .ensures in (
       omega (arith, t .0, some-total (s .pre .0)),
       t .1,
-      node-small (s .pre .0) (parts (c .before .before .before .before .before)) (s .pre .1 .0) (omega (arith, count (c .before .before .before .before .before))) (l .inv .1) (c .before .field2 .ensures .0) _ (c .best-of .ensures .0) (s .pre .1 .1 .0),
+      node-small (s .pre .0) (parts (c .before .before .before .before .before)) (s .pre .1 .0) (omega (arith, c .before .before .before .before .before .before .before .before .before .shape-of .ensures)) (l .inv .1) (c .before .field2 .ensures .0) _ (c .best-of .ensures .0) (s .pre .1 .1 .0),
     )
 
-mul-dst : tie.Need-mul-dst Inv-loop μ-loop
-mul-dst c = omega (arith, few (c .before .before .before .before .before .before))
-
 slice-write-dst : tie.Need-slice-write-dst Inv-loop μ-loop
-slice-write-dst c = omega (arith, count (c .before .before .before .before .before .before), c .before .before .before .before .before .before .before .before .before .before .before .before .before .before .before .before .before .before .pre .1 .1 .1)
+slice-write-dst c = omega (arith, c .before .before .before .before .before .before .before .before .before .before .shape-of .ensures, c .before .before .before .before .before .before .before .before .before .before .before .before .before .before .before .before .before .pre .1 .1 .1)
 
 loop-again : tie.Need-loop-again Inv-loop μ-loop
 loop-again c =
-    let s = c .before .before .before .before .before .before .before .before .before .before .before .before .before .before .before .before .before .before in
+    let s = c .before .before .before .before .before .before .before .before .before .before .before .before .before .before .before .before .before in
     let l = c .before .before .before .before .before .loop in
-    let k : l .n < nodesOf (now (s .args .m)) (now (s .args .g)) = omega (arith, count (c .before .before .before .before .before .before)) in
+    let k : l .n < nodesOf (now (s .args .m)) (now (s .args .g)) = omega (arith, c .before .before .before .before .before .before .before .before .before .before .shape-of .ensures) in
     let q = c .before .before .field2 .ensures .0 in
     let b = c .before .best-of .ensures in (
       omega arith,
@@ -84,8 +67,9 @@ loop-again c =
 
 returns : tie.Need-returns Inv-loop μ-loop
 returns c =
+    let s = c .before .before .before .before .before .before .before .before .before .before .before .before .before in
     let l = c .before .loop in
-    let e : l .n ≡ nodesOf (now (c .before .before .before .before .before .before .before .before .before .before .before .before .before .before .args .m)) (now (c .before .before .before .before .before .before .before .before .before .before .before .before .before .before .args .g)) = omega (arith, count (c .before .before)) in
+    let e : l .n ≡ nodesOf (now (s .args .m)) (now (s .args .g)) = omega (arith, c .before .before .before .before .before .before .shape-of .ensures) in
     l .inv .2 ∙ rw e refl
 
 pub fill-next-spec : {M : Type 1} → statement M
@@ -94,18 +78,17 @@ fill-next-spec =
     (tie.spec
     Inv-loop
     μ-loop
-    node-size-requires
     (λ c κs. search needs)
     (λ c κs. search needs)
     (λ c κs. search needs)
     (λ c κs. search needs)
     (λ c κs. search needs)
     loop-holds
-    field-requires
-    field-requires-2
+    (λ c κs. search needs)
+    (λ c κs. search needs)
     best-of-requires
     figure-by-requires
-    mul-dst
+    (λ c. search needs)
     slice-write-dst
     (λ c. search needs)
     (λ c. search needs)

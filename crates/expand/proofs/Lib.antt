@@ -1,0 +1,6 @@
+pub mod AllLaws
+pub mod Sizes
+pub mod Readings
+pub mod Ready
+pub mod EnabledLaws
+pub mod FollowLaws

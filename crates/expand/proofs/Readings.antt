@@ -1,0 +1,105 @@
+-- What the code's tests of the rows and of the bodies say of a node: how the guards, the target and the assigned entries
+-- of an accepted model read in its label.
+-- Assumes nothing.
+use Prim.Native.Nat.{ℕ}
+use mathlib.Core.Path.{_≡_, refl, sym, ap, _∙_}
+use mathlib.Core.Bool.{Bool, true, false, not, _&&_, and-true}
+use mathlib.Core.List.{List}
+use borrow.Author.Tests.{ne-eqb}
+use lib.Dec.{eqb}
+use lib.ListN.{getD}
+use lib.IntN.{ℤ, pos}
+use Rattle.folder.specs.Pick.{pick, implies}
+use Rattle.folder.specs.Scan.{all}
+use Rattle.folder.specs.Contents.{body, field}
+use Rattle.whole.specs.Order.{eqZ}
+use Rattle.expressions.specs.Reading.{knownTruth, isKnown, isTrue, isFalse, reads}
+use Rattle.expressions.specs.Right.{IsNumber, IsTruth}
+use Rattle.expressions.specs.declared.Number.{Number}
+use Rattle.expressions.specs.declared.Number.the-variants.{Known, Unknown as Open}
+use Rattle.expressions.specs.declared.Truth.the-variants.{Unknown}
+use Rattle.evaluate.specs.Settled.{truthFrom}
+use Rattle.evaluate.proofs.Rows.{number-there, truth-there}
+use Rattle.model.specs.Model.{Model, modelOf}
+use Rattle.graph.specs.Simulation.{Simulation, simulationOf}
+use Rattle.graph.specs.Labels.{look, numberOf, truthOf}
+use Rattle.graph.specs.Rules.{A2}
+use Rattle.expand.specs.Node.{NodeOf, LabelSettled}
+use Rattle.expand.specs.Tests.{knownAt, trueAt, falseAt, readsAt}
+use Rattle.expand.proofs.AllLaws.{all-same}
+
+-- ---- a reading from its two rows
+known-from : (a b : Bool) → isKnown (pick a (knownTruth b) Unknown) ≡ a
+known-from true true = refl
+known-from true false = refl
+known-from false b = refl
+
+true-from : (a b : Bool) → isTrue (pick a (knownTruth b) Unknown) ≡ (a && b)
+true-from true true = refl
+true-from true false = refl
+true-from false b = refl
+
+false-from : (a b : Bool) → isFalse (pick a (knownTruth b) Unknown) ≡ (a && not b)
+false-from true true = refl
+false-from true false = refl
+false-from false b = refl
+
+reads-from : (a : Bool) (y z : ℤ) → reads (pick a (Known y) Open) z ≡ (a && eqZ y z)
+reads-from true y z = refl
+reads-from false y z = refl
+
+-- ---- a rule of expanded nodes; k is the node's kind
+pub when-expanded : (x : Bool) {kind k : ℕ} {t : Bool} → kind ≡ k → kind ≡ 1 → t ≡ x → t ≡ implies (eqb k 1) x
+when-expanded x p e q = rw (sym p ∙ e) q
+
+pub when-other : (x : Bool) {kind k : ℕ} → kind ≡ k → (kind ≡ 1 → ⊥) → true ≡ implies (eqb k 1) x
+when-other x {k = k} p f = rw (ne-eqb k 1 (λ e. f (p ∙ e)))
+
+-- ---- the command at c, by the body of commands: e is its guard, and t what a test of the guard answers
+pub at-guard : (test : ℕ → Bool) (m : List ℕ) (c : ℕ) {cs : List ℕ} {e : ℕ} {t : Bool} → cs ≡ body m 3 → e ≡ field 4 cs c 0 → t ≡ test e → t ≡ test (modelOf m .guard c)
+at-guard test m c q p h = h ∙ ap test (p ∙ ap (λ (s : List ℕ). field 4 s c 0) q)
+
+module _ {m g : List ℕ} {n : ℕ} {known : List ℕ} {values : List ℤ} (node : NodeOf m g n) (settled : LabelSettled m g n known values) where
+  abbrev M : Model
+  M = modelOf m
+
+  abbrev G : Simulation
+  G = simulationOf M g
+
+  module _ {e : ℕ} (i : IsTruth (M .entries) e) where
+    truth-row : truthFrom (getD known e 0) (getD values e (pos 0)) ≡ truthOf M G n e
+    truth-row = truth-there (M .entries) (look M G n) (M .entries .count) known values settled e (i .there) i
+
+    known-is : knownAt known e ≡ isKnown (truthOf M G n e)
+    unfolding knownAt
+    known-is = sym (known-from (eqb (getD known e 0) 1) (eqZ (getD values e (pos 0)) (pos 1))) ∙ ap isKnown truth-row
+
+    pub true-is : trueAt known values e ≡ isTrue (truthOf M G n e)
+    unfolding readsAt knownAt
+    true-is = sym (true-from (eqb (getD known e 0) 1) (eqZ (getD values e (pos 0)) (pos 1))) ∙ ap isTrue truth-row
+
+    false-is : falseAt known values e ≡ isFalse (truthOf M G n e)
+    unfolding falseAt knownAt
+    false-is = sym (false-from (eqb (getD known e 0) 1) (eqZ (getD values e (pos 0)) (pos 1))) ∙ ap isFalse truth-row
+
+  pub reads-is : {e : ℕ} → IsNumber (M .entries) e → (z : ℤ) → readsAt known values e z ≡ reads (numberOf M G n e) z
+  unfolding readsAt knownAt
+  reads-is {e} i z =
+      sym (reads-from (eqb (getD known e 0) 1) (getD values e (pos 0)) z)
+      ∙ ap (λ (a : Number). reads a z) (number-there (M .entries) (look M G n) (M .entries .count) known values settled e (i .there) i)
+
+  -- ---- A2, by the node's kind
+  module _ {kind : ℕ} (k : kind ≡ G .kind n) where
+    pub a2-expanded : kind ≡ 1 → {target : ℕ} {a b : Bool} → target ≡ M .target → a ≡ all (λ c. knownAt known (M .guard c)) (M .commands) → b ≡ falseAt known values target
+        → (a && b) ≡ A2 M G n
+    unfolding A2
+    a2-expanded e t p q =
+        rw (sym k ∙ e, and-true, p, q, t, false-is (node .model .model .target), all-same (M .commands) _ _ (λ c l. known-is (node .model .model .commands c l .guard)))
+
+    pub a2-target : kind ≡ 3 → {target : ℕ} {b : Bool} → target ≡ M .target → b ≡ trueAt known values target → b ≡ A2 M G n
+    unfolding A2
+    a2-target e t q = rw (sym k ∙ e, q, t) (true-is (node .model .model .target))
+
+    pub a2-other : (kind ≡ 1 → ⊥) → (kind ≡ 3 → ⊥) → true ≡ A2 M G n
+    unfolding A2
+    a2-other f h = rw (ne-eqb (G .kind n) 1 (λ e. f (k ∙ e)), ne-eqb (G .kind n) 3 (λ e. h (k ∙ e)))

@@ -1,0 +1,135 @@
+-- What `settle` asks of a node's label, where A1 holds, and of its concrete state; and what its rows are then.
+-- Assumes nothing.
+use Prim.Native.Nat.{ℕ, _+_, _^_, _<_, _≤_}
+use native.Mathlib.Nat.{div-lt-iff-lt-mul, one-le-pow}
+use native.Mathlib.Decide.{decLt}
+use native.Mathlib.Omega.{arith}
+use mathlib.Core.Path.{_≡_, sym, _∙_}
+use mathlib.Core.Bool.{Bool, true, false, false≢true}
+use mathlib.Core.List.{List, _++_}
+use lib.Dec.{eqb}
+use lib.ListN.{getD, take, drop}
+use lib.Seq.{take-at}
+use lib.IntN.{ℤ, pos}
+use Rattle.folder.specs.Pick.{pick}
+use Rattle.folder.specs.Contents.{body, countOf, signedField}
+use Rattle.folder.specs.Tab.{tab}
+use Rattle.folder.proofs.Decides.{passes, everywhere, whenever}
+use Rattle.folder.proofs.TabLaws.{length-tab, getD-tab}
+use Rattle.whole.proofs.Order.{equal-decided}
+use Rattle.expressions.specs.Entries.{entriesOf}
+use Rattle.expressions.specs.Meaning.{valueOf, numberIn}
+use Rattle.expressions.specs.Reading.{lookIn, readNumber}
+use Rattle.expressions.specs.Right.{IsNumber}
+use Rattle.expressions.specs.declared.Number.the-variants.{Known, Unknown as Open}
+use Rattle.expressions.proofs.Interval.{In}
+use Rattle.evaluate.specs.Formed.{Formed, Ready, Grounded}
+use Rattle.evaluate.specs.Settled.{Settled}
+use Rattle.evaluate.proofs.Bits.{no-bit}
+use Rattle.evaluate.proofs.Readable.{ready, number-known, number-open}
+use Rattle.evaluate.proofs.Rows.{number-there}
+use Rattle.model.specs.Limits.{mostExpressions}
+use Rattle.model.specs.Layout.{variableCount, recordSize, recordCount}
+use Rattle.model.specs.Model.{Model, modelOf, bound}
+use Rattle.model.specs.Valid.{Valid}
+use Rattle.model.proofs.Chances.{in-bounds}
+use Rattle.graph.specs.Simulation.{Simulation, nodeSize, simulationOf}
+use Rattle.graph.specs.Labels.{tracks, concreteState}
+use Rattle.graph.specs.Rules.{A1}
+use Rattle.graph.proofs.Limits.{few-variables}
+use Rattle.expand.specs.Node.{NodeOf, StateSettled}
+
+pub few-entries : {m : List ℕ} → Valid m → modelOf m .entries .count ≤ mostExpressions
+unfolding recordCount recordSize
+few-entries valid = valid .folder .records 2 (omega arith) .few
+
+-- The loaded part of a row.
+pub loaded : {A : Type 0} (n : ℕ) (f : ℕ → A) (d : List A) {row : List A} → row ≡ tab n f ++ drop n d → take n row ≡ tab n f
+loaded n f d e = rw e (take-at (tab n f) (drop n d) n (length-tab n f))
+
+-- The same body, set and values by other names.
+pub settled-as : {x y : List ℕ} {t u : ℕ} {v w : List ℤ} {known : List ℕ} {values : List ℤ} → x ≡ y → t ≡ u → v ≡ w
+    → Settled (entriesOf x) (lookIn t v) (countOf 8 x) known values → Settled (entriesOf y) (lookIn u w) (countOf 8 y) known values
+settled-as p q r s = rw (sym p, sym q, sym r) s
+
+pub ready-as : {x y : List ℕ} {t u : ℕ} {v w : List ℤ} → x ≡ y → t ≡ u → v ≡ w → Ready (entriesOf y) u w → Ready (entriesOf x) t v
+ready-as p q r s = rw (p, q, r) s
+
+module _ {m g : List ℕ} {n : ℕ} (node : NodeOf m g n) where
+  abbrev M : Model
+  M = modelOf m
+
+  abbrev G : Simulation
+  G = simulationOf M g
+
+  -- What `load_row` loads.
+  module _ {vars : ℕ} {nb : List ℕ} {row : List ℤ} (d : List ℤ) (p : vars ≡ variableCount m) (q : nb ≡ body g 0) where
+    pub label-loaded : row ≡ tab vars (λ v. signedField (nodeSize vars) nb n (6 + vars + v)) ++ drop vars d → take vars row ≡ tab (M .variables) (G .label n)
+    label-loaded e = loaded vars (λ v. signedField (nodeSize vars) nb n (6 + vars + v)) d e ∙ (λ i. tab (p i) (λ v. signedField (nodeSize (p i)) (q i) n (6 + p i + v)))
+
+    pub state-loaded : row ≡ tab vars (λ v. signedField (nodeSize vars) nb n (6 + v)) ++ drop vars d → take vars row ≡ concreteState M G n
+    state-loaded e = loaded vars (λ v. signedField (nodeSize vars) nb n (6 + v)) d e ∙ (λ i. tab (p i) (λ v. signedField (nodeSize (p i)) (q i) n (6 + v)))
+
+  -- ---- the state
+  formed : Formed (M .entries) (M .variables) (bound M)
+  formed = record { right = node .model .model .entries; ranges = node .model .model .ranges }
+
+  inside : (i : ℕ) → In (bound M i) (valueOf (concreteState M G n) i)
+  inside = in-bounds M (concreteState M G n) (record {
+    long = length-tab (M .variables) (G .concrete n);
+    low = λ v l. rw (getD-tab (pos 0) (M .variables) (G .concrete n) v l) (node .rows .nodes n (node .there) .low v l);
+    high = λ v l. rw (getD-tab (pos 0) (M .variables) (G .concrete n) v l) (node .rows .nodes n (node .there) .high v l);
+  })
+
+  pub state-grounded : Grounded (M .entries) (concreteState M G n)
+  state-grounded = record {
+    variables = M .variables;
+    few = few-variables (node .model);
+    bound = bound M;
+    formed = formed;
+    low = λ i. inside i .low;
+    high = λ i. inside i .high;
+  }
+
+  pub state-ready : Ready (M .entries) 65535 (concreteState M G n)
+  state-ready = ready (M .entries) (concreteState M G n) state-grounded
+
+  -- Rows that are settled in the state have its numbers.
+  pub state-settled : {known : List ℕ} {values : List ℤ} → Settled (M .entries) (lookIn 65535 (concreteState M G n)) (M .entries .count) known values → StateSettled m g n values
+  state-settled {known} {values} s = record {
+    numbers = λ e i. go e i (eqb (getD known e 0) 1) (number-there (M .entries) (lookIn 65535 (concreteState M G n)) (M .entries .count) known values s e (i .there) i);
+  }
+    where
+      go : (e : ℕ) → IsNumber (M .entries) e → (b : Bool) → pick b (Known (getD values e (pos 0))) Open ≡ readNumber (M .entries) (lookIn 65535 (concreteState M G n)) e
+          → getD values e (pos 0) ≡ numberIn (M .entries) (concreteState M G n) e
+      go e i true h = number-known (M .entries) (concreteState M G n) state-grounded e (getD values e (pos 0)) (sym h)
+      go e i false h = absurd (number-open (M .entries) (concreteState M G n) state-grounded e i (sym h))
+
+  -- ---- the label: where A1 holds, its tracked values are the state's
+  small-set : G .tracked n < 2 ^ M .variables
+  small-set =
+      let some : 0 < 2 ^ M .variables = omega (arith, one-le-pow (M .variables) 2 (omega arith)) in
+      omega (arith, div-lt-iff-lt-mul {k = 2 ^ M .variables} {x = G .tracked n} {y = 1} some .0 (omega (arith, node .rows .nodes n (node .there) .bits)))
+
+  tracked-there : (i : ℕ) → tracks G n i ≡ true → i < M .variables
+  tracked-there i t = go (decLt i (M .variables))
+    where
+      go : Dec (i < M .variables) → i < M .variables
+      go (yes l) = l
+      go (no h) = absurd (false≢true (sym (no-bit (G .tracked n) (M .variables) i small-set (omega arith)) ∙ t))
+
+  agrees : A1 M G n ≡ true → (i : ℕ) → tracks G n i ≡ true → valueOf (tab (M .variables) (G .label n)) i ≡ valueOf (concreteState M G n) i
+  unfolding A1
+  agrees h i t =
+      let l = tracked-there i t in
+      getD-tab (pos 0) (M .variables) (G .label n) i l
+      ∙ everywhere (M .variables) (λ v k. whenever (passes (tracks G n v)) (equal-decided (G .label n v) (G .concrete n v))) .yes h i l t
+      ∙ sym (getD-tab (pos 0) (M .variables) (G .concrete n) i l)
+
+  pub label-ready : A1 M G n ≡ true → Ready (M .entries) (G .tracked n) (tab (M .variables) (G .label n))
+  label-ready h = record {
+    variables = M .variables;
+    bound = bound M;
+    formed = formed;
+    values = record { low = λ i t. rw (agrees h i t) (inside i .low); high = λ i t. rw (agrees h i t) (inside i .high) };
+  }

@@ -1,0 +1,28 @@
+-- What an accepted model and rows 12 to 17 give of sizes: cursors on edges, and numbers of branch records.
+-- Assumes nothing.
+use Prim.Native.Nat.{ℕ, _+_, _<_, _≤_}
+use native.Mathlib.Omega.{arith}
+use mathlib.Core.Path.{_≡_}
+use mathlib.Core.List.{List}
+use Rattle.mdp.proofs.SumLaws.{sum-more}
+use Rattle.model.specs.Limits.{mostRecords}
+use Rattle.model.specs.Layout.{recordSize, recordCount}
+use Rattle.model.specs.Model.{modelOf, firstRecord}
+use Rattle.model.specs.Valid.{Valid}
+use Rattle.graph.specs.Limits.{mostBytes}
+use Rattle.graph.specs.Simulation.{edgeAt, nodeField}
+use Rattle.graph.proofs.EdgePlaces.{place-within, edges-short}
+use Rattle.expand.specs.Node.{NodeOf}
+
+-- No cursor on a node's edges leaves the folder.
+pub cursor-small : {m g : List ℕ} {n : ℕ} → NodeOf m g n → (e : ℕ) {edges p : ℕ} → edges ≡ nodeField (modelOf m) g n 4 → e ≤ edges → p ≡ edgeAt (modelOf m) g n e → p ≤ mostBytes
+cursor-small {m} {g} {n} node e q l s =
+    omega (arith, place-within (node .rows) n e (node .there) (omega arith), edges-short (node .rows))
+
+few-records : {m : List ℕ} → Valid m → modelOf m .records ≤ mostRecords
+unfolding recordCount recordSize
+few-records valid = valid .folder .records 4 (omega arith) .few
+
+-- A command's branch records are among the records, of which there are few.
+pub records-small : {m : List ℕ} → Valid m → (c : ℕ) → c < modelOf m .commands → firstRecord (modelOf m) c + modelOf m .branches c ≤ mostRecords
+records-small {m} valid c l = omega (arith, few-records valid, valid .model .records, sum-more (modelOf m .commands) (modelOf m .branches) c l)

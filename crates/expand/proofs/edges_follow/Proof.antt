@@ -1,0 +1,121 @@
+use Prim.Native.Nat.{_-_, _≤_}
+use mathlib.Core.Path.{_≡_, ap, _∙_}
+use native.Mathlib.Omega.{arith}
+use denote.Ref.{now}
+use borrow.Author.Needs.{needs}
+use Rattle.folder.specs.Scan.{all}
+use Rattle.folder.proofs.ScanLaws.{Scanned, scan-start, scan-next}
+use Rattle.model.specs.Model.{modelOf}
+use Rattle.graph.specs.Limits.{mostBytes}
+use Rattle.graph.specs.Simulation.{edgeAt, simulationOf}
+use Rattle.graph.specs.Rules.{edgeFollows}
+use Rattle.graph.proofs.CountLaws.{all-fails, all-pass}
+use Rattle.graph.proofs.EdgePlaces.{place-start}
+use Rattle.expand.proofs.Sizes.{cursor-small}
+use Rattle.expand.proofs.FollowLaws.{EdgeRead, Held, next-stands, first-there, records-fit, edge-tested}
+use Rattle.expand.proofs.edges_follow.Statement.{statement}
+use Rattle.expand.proofs.edges_follow.Tie as tie
+
+abbrev Inv-loop : tie.InvT-loop
+Inv-loop m g n at firsts known values state vars cs bs nb eb edges p₀ e₀ p e =
+    Scanned (edgeFollows (modelOf m) (simulationOf (modelOf m) g) n) edges e × (p ≡ edgeAt (modelOf m) g n e)
+
+abbrev μ-loop : tie.MeasureT-loop
+μ-loop m g n at firsts known values state vars cs bs nb eb edges p₀ e₀ p e = edges - e
+
+abbrev start : tie.At-loop Inv-loop μ-loop → tie.Start Inv-loop μ-loop
+start l = l .before .before .before .before .before .before .before .before .before .before .before
+
+cursor : (l : tie.At-loop Inv-loop μ-loop) → l .loop .p ≤ mostBytes
+cursor l = cursor-small (start l .pre .0) (l .loop .e) (l .before .node-field .ensures .0) (l .loop .inv .0 .within) (l .loop .inv .1)
+
+held : (l : tie.At-loop Inv-loop μ-loop)
+    → Held (now (start l .args .m)) (now (start l .args .g)) (l .before .before .before .before .before .before .variable-count .result) (now (l .before .before .before .before .body2 .result)) (now (l .before .before .before .body3 .result))
+held l = record {
+  variables = l .before .before .before .before .before .before .variable-count .ensures .0;
+  records-in = l .before .before .before .before .body2 .ensures;
+  nodes-in = l .before .before .before .body3 .ensures;
+}
+
+abbrev loop-of : tie.After-field Inv-loop μ-loop → tie.At-loop Inv-loop μ-loop
+loop-of f = f .before .before .before
+
+read : (f : tie.After-field Inv-loop μ-loop)
+    → EdgeRead (now (start (loop-of f) .args .m)) (now (start (loop-of f) .args .g)) (start (loop-of f) .args .n) (now (loop-of f .before .before .before .before .before .body .result)) (now (loop-of f .before .before .body4 .result))
+    (loop-of f .before .node-field .result) (loop-of f .loop .e) (loop-of f .loop .p) (f .before .u16-at .result) (f .field .result)
+read f = record {
+  commands-in = loop-of f .before .before .before .before .before .body .ensures;
+  edges-in = loop-of f .before .before .body4 .ensures;
+  count = loop-of f .before .node-field .ensures .0;
+  within = f .before .before .loop-test .taken;
+  stands = loop-of f .loop .inv .1;
+  command = f .before .u16-at .ensures .0;
+  branching = f .field .ensures .0;
+}
+
+loop-holds : tie.Need-loop-holds Inv-loop μ-loop
+loop-holds c = (scan-start _ _, place-start _ _ _ (c .before .before .before .before .before .before .before .before .before .before .pre .1 .0))
+
+u16-at-requires : tie.Need-u16-at-requires Inv-loop μ-loop
+u16-at-requires c κs = omega (arith, cursor (c .before))
+
+shared-slice-read-first : tie.Need-shared-slice-read-first Inv-loop μ-loop
+shared-slice-read-first c = let s = start (loop-of (c .before)) in first-there (s .pre .0) (read (c .before)) (s .pre .1 .1 .0)
+
+branches-follow-requires : tie.Need-branches-follow-requires Inv-loop μ-loop
+branches-follow-requires c κs =
+    let l = loop-of (c .before) in
+    let s = start l in
+    (l .before .before .before .before .before .before .variable-count .ensures .1, records-fit (s .pre .0) (read (c .before)) (s .pre .1 .1 .0), omega (arith, cursor l))
+
+add-p-2 : tie.Need-add-p-2 Inv-loop μ-loop
+add-p-2 c = let f = c .before .before .before in omega (arith, cursor (loop-of f), f .field .ensures .1)
+
+loop-again : tie.Need-loop-again Inv-loop μ-loop
+loop-again c =
+    let f = c .before .before .before in
+    let l = loop-of f in
+    let s = start l in (
+      scan-next (l .loop .inv .0) (f .before .before .loop-test .taken)
+          (edge-tested (s .pre .0) (read f) (s .pre .1 .1 .0) (s .pre .1 .1 .1 .0) (s .pre .1 .1 .1 .1) (held l) (c .before .branches-follow .ensures)) (c .if1 .taken),
+      next-stands (s .pre .0) (read f),
+    )
+
+returns : tie.Need-returns Inv-loop μ-loop
+returns c =
+    let f = c .before .before .before in
+    let l = loop-of f in
+    let s = start l in
+    all-fails (l .loop .inv .0) (f .before .before .loop-test .taken)
+    (edge-tested (s .pre .0) (read f) (s .pre .1 .1 .0) (s .pre .1 .1 .1 .0) (s .pre .1 .1 .1 .1) (held l) (c .before .branches-follow .ensures)) (c .if1 .left)
+    ∙ ap (all _) (l .before .node-field .ensures .0)
+
+returns-2 : tie.Need-returns-2 Inv-loop μ-loop
+returns-2 c = all-pass (c .before .loop .inv .0) (c .loop-test .left) ∙ ap (all _) (c .before .before .node-field .ensures .0)
+
+pub edges-follow-spec : {M : Type 1} → statement M
+edges-follow-spec =
+    tie.close
+    (tie.spec
+    Inv-loop
+    μ-loop
+    (λ c κs. search needs)
+    (λ c κs. search needs)
+    (λ c κs. search needs)
+    (λ c κs. search needs)
+    (λ c κs. search needs)
+    (λ c κs. search needs)
+    loop-holds
+    u16-at-requires
+    (λ c κs. search needs)
+    (λ c. search needs)
+    shared-slice-read-first
+    branches-follow-requires
+    (λ c. search needs)
+    (λ c. search needs)
+    add-p-2
+    (λ c. search needs)
+    (λ c. search needs)
+    loop-again
+    returns
+    returns-2)

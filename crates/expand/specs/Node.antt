@@ -1,0 +1,36 @@
+-- What the rules of a node stand on: a node of a graph that is read so far, and rows that were filled for it.
+-- Assumes nothing.
+use Prim.Native.Nat.{ℕ, _<_, _≤_}
+use mathlib.Core.Path.{_≡_}
+use mathlib.Core.List.{List}
+use lib.ListN.{length, getD}
+use lib.IntN.{ℤ, pos}
+use Rattle.expressions.specs.Meaning.{numberIn}
+use Rattle.expressions.specs.Right.{IsNumber}
+use Rattle.evaluate.specs.Settled.{Settled}
+use Rattle.model.specs.Model.{modelOf, firstRecord}
+use Rattle.model.specs.Valid.{Valid}
+use Rattle.graph.specs.Simulation.{nodeCount, simulationOf}
+use Rattle.graph.specs.Labels.{look, concreteState}
+use Rattle.graph.specs.Rows.{RowsRight}
+
+module _ (m g : List ℕ) (n : ℕ) where
+  -- The model folder m is accepted, rows 12 to 17 hold of the graph folder g, and n is one of its nodes.
+  pub record NodeOf : Type 0 where
+    pub model : Valid m
+    pub rows : RowsRight (modelOf m) g
+    pub there : n < nodeCount (modelOf m) g
+
+  -- The rows have how each entry reads in the node's label.
+  abbrev pub LabelSettled : List ℕ → List ℤ → Type 0
+  LabelSettled known values = Settled (modelOf m .entries) (look (modelOf m) (simulationOf (modelOf m) g) n) (modelOf m .entries .count) known values
+
+  -- The row has what each number is in the node's concrete state.
+  pub record StateSettled (state : List ℤ) : Type 0 where
+    pub numbers : (e : ℕ) → IsNumber (modelOf m .entries) e
+        → getD state e (pos 0) ≡ numberIn (modelOf m .entries) (concreteState (modelOf m) (simulationOf (modelOf m) g) n) e
+
+-- The row has each command's first branch record.
+pub record FirstsOf (m : List ℕ) (firsts : List ℕ) : Type 0 where
+  pub long : modelOf m .commands ≤ length firsts
+  pub placed : (c : ℕ) → c < modelOf m .commands → getD firsts c 0 ≡ firstRecord (modelOf m) c

@@ -1,0 +1,65 @@
+-- The tests that the code makes of the rows and of the bodies.
+-- Assumes nothing.
+use Prim.Native.Nat.{ℕ, _+_, _*_}
+use mathlib.Core.Bool.{Bool, _&&_, not}
+use mathlib.Core.List.{List}
+use lib.Dec.{ltb, eqb}
+use lib.ListN.{getD}
+use lib.IntN.{ℤ, pos}
+use Rattle.folder.specs.Pick.{implies}
+use Rattle.folder.specs.Scan.{all}
+use Rattle.folder.specs.Tab.{tab, passing, sameList}
+use Rattle.folder.specs.Fields.{u16}
+use Rattle.folder.specs.Contents.{field, signedField}
+use Rattle.whole.specs.Order.{eqZ}
+use Rattle.expressions.specs.Reading.{hasBit}
+use Rattle.model.specs.Layout.{branchSize}
+use Rattle.model.specs.Model.{modelOf}
+use Rattle.graph.specs.Simulation.{nodeSize, simulationOf}
+use Rattle.graph.specs.Rules.{enabledIn, edgeFollows}
+
+-- Entry e reads known, false, or known with the value z, which is 1 for true.
+unfoldable pub knownAt : List ℕ → ℕ → Bool
+knownAt known e = eqb (getD known e 0) 1
+
+unfoldable pub falseAt : List ℕ → List ℤ → ℕ → Bool
+falseAt known values e = knownAt known e && not (eqZ (getD values e (pos 0)) (pos 1))
+
+unfoldable pub readsAt : List ℕ → List ℤ → ℕ → ℤ → Bool
+readsAt known values e z = knownAt known e && eqZ (getD values e (pos 0)) z
+
+abbrev pub trueAt : List ℕ → List ℤ → ℕ → Bool
+trueAt known values e = readsAt known values e (pos 1)
+
+-- Edge k of a node that has `edges` of them, which stands at p, is there and names the command c.
+abbrev pub namesAt : List ℕ → ℕ → ℕ → ℕ → ℕ → Bool
+namesAt eb edges k p c = ltb k edges && eqb (u16 eb p) c
+
+-- nb is the body of nodes, and bs that of branch records.
+module _ (variables : ℕ) (nb bs known : List ℕ) (values state : List ℤ) where
+  -- Branch record r gives variable v what the node s has, and reads so in the label where s tracks v.
+  unfoldable pub variableFollows : ℕ → ℕ → ℕ → Bool
+  variableFollows r s v =
+      eqZ (signedField (nodeSize variables) nb s (6 + v)) (getD state (field (branchSize variables) bs r (1 + v)) (pos 0))
+      && implies (hasBit (field (nodeSize variables) nb s 5) v) (readsAt known values (field (branchSize variables) bs r (1 + v)) (signedField (nodeSize variables) nb s (6 + variables + v)))
+
+  -- All variables; and all branches of the edge at p, whose records stand from `first` on.
+  unfoldable pub branchFollows : ℕ → ℕ → Bool
+  branchFollows r s = all (variableFollows r s) variables
+
+  unfoldable pub branchesFollow : List ℕ → ℕ → ℕ → ℕ → Bool
+  branchesFollow eb first branches p = all (λ b. branchFollows (first + b) (u16 eb (p + 2 + 2 * b))) branches
+
+-- What B1 and B2 ask of an expanded node n.
+module _ (m g : List ℕ) (n : ℕ) where
+  abbrev pub sameEdges : Bool
+  sameEdges =
+      let M = modelOf m in
+      let G = simulationOf M g in
+      sameList (tab (G .edges n) (G .command n)) (passing (M .commands) (enabledIn M G n))
+
+  abbrev pub allFollow : Bool
+  allFollow =
+      let M = modelOf m in
+      let G = simulationOf M g in
+      all (edgeFollows M G n) (G .edges n)

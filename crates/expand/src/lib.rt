@@ -1,0 +1,336 @@
+// The rules of a node that read expressions: A2, B1 and B2, rows 19 to 21 of the table. How entries read is settled
+// before, once for the node: `known` and `values` for its label, and `state` for its concrete state.
+ghost use mathlib.Core.Path.{_≡_};
+ghost use mathlib.Core.Bool.{true};
+ghost use mathlib.Core.List.{_++_};
+ghost use Prim.Native.Nat.{_+_, _<_, _≤_, _^_};
+ghost use lib.ListN.{length, drop};
+ghost use Rattle.folder.specs.Fields.{signed16};
+ghost use Rattle.folder.specs.Contents.{field};
+ghost use Rattle.folder.specs.Scan.{all};
+ghost use Rattle.folder.specs.Tab.{tab};
+ghost use Rattle.model.specs.Limits.{mostExpressions};
+ghost use Rattle.model.specs.Model.{modelOf};
+ghost use Rattle.model.specs.Valid.{Valid};
+ghost use Rattle.graph.specs.Simulation.{nodeSize, nodeField, simulationOf};
+ghost use Rattle.graph.specs.Rules.{A1, A2, B1, B2};
+ghost use Rattle.graph.specs.Walks.{startsAt};
+ghost use Rattle.expand.specs.Node.{NodeOf, LabelSettled, StateSettled, FirstsOf};
+ghost use Rattle.expand.specs.Tests.{knownAt, falseAt, readsAt, namesAt, variableFollows, branchFollows, branchesFollow, sameEdges, allFollow};
+
+// Kinds of a node.
+const EXPANDED: usize = 1;
+
+const TARGET: usize = 3;
+
+// Fills the front of a row with the values of node n whose first is field f: 6 for the concrete label, and as many more
+// as there are variables for the abstract one.
+pub fn load_row(nb: &[u8], vars: usize, n: usize, f: usize, row: &mut [i64])
+    requires { ⌜ (vars ≤ 16) × (n ≤ 65536) × (f ≤ 65000) ⌝ }
+    requires { ⌜ vars ≤ length (now row) ⌝ }
+    ensures { λ _. ⌜ now (row .exit) ≡ tab vars (λ v. signed16 (field (nodeSize vars) (now (nb .entry)) n (f + v))) ++ drop vars (now (row .entry)) ⌝ }
+{
+    let size = graph::node_size(vars);
+    let mut v = 0;
+    while v < vars {
+        row[v] = folder::signed_field(size, nb, n, f + v);
+        v += 1;
+    }
+}
+
+fn command_count(m: &[u8]) -> usize
+    requires { ⌜ Valid (now m) ⌝ }
+    ensures { λ r. ⌜ (r ≡ modelOf (now (m .entry)) .commands) × (r ≤ 64) ⌝ }
+{
+    folder::count_of(4, folder::body(m, 3))
+}
+
+// Field f of node n.
+fn node_field(m: &[u8], g: &[u8], n: usize, f: usize) -> usize
+    requires { ⌜ NodeOf (now m) (now g) n ⌝ }
+    requires { ⌜ f ≤ 65536 ⌝ }
+    ensures { λ r. ⌜ (r ≡ nodeField (modelOf (now (m .entry))) (now (g .entry)) n f) × (r < 65536) ⌝ }
+{
+    folder::field(
+        graph::node_size(graph::variable_count(m)),
+        folder::body(g, 0),
+        n,
+        f,
+    )
+}
+
+// Settles how entries read in the label of node n, where A1 holds.
+pub fn settle_label(m: &[u8], g: &[u8], n: usize, known: &mut [u8], values: &mut [i64])
+    requires { ⌜ NodeOf (now m) (now g) n ⌝ }
+    requires { ⌜ A1 (modelOf (now m)) (simulationOf (modelOf (now m)) (now g)) n ≡ true ⌝ }
+    requires { ⌜ (mostExpressions ≤ length (now known)) × (mostExpressions ≤ length (now values)) ⌝ }
+    ensures { λ _. ⌜ LabelSettled (now (m .entry)) (now (g .entry)) n (now (known .exit)) (now (values .exit)) ⌝ }
+{
+    let vars = graph::variable_count(m);
+    let set = node_field(m, g, n, 5);
+    let x = folder::body(m, 2);
+    let nb = folder::body(g, 0);
+    let first = 6 + vars;
+    let mut row: [i64; 16] = [0; 16];
+    load_row(nb, vars, n, first, &mut row);
+    evaluate::settle(x, set, &row[..vars], known, values);
+}
+
+// And what they are in its concrete state. All of them read known there, so that `known` is not looked at again.
+pub fn settle_state(m: &[u8], g: &[u8], n: usize, known: &mut [u8], state: &mut [i64])
+    requires { ⌜ NodeOf (now m) (now g) n ⌝ }
+    requires { ⌜ (mostExpressions ≤ length (now known)) × (mostExpressions ≤ length (now state)) ⌝ }
+    ensures { λ _. ⌜ StateSettled (now (m .entry)) (now (g .entry)) n (now (state .exit)) ⌝ }
+{
+    let vars = graph::variable_count(m);
+    let x = folder::body(m, 2);
+    let nb = folder::body(g, 0);
+    let mut row: [i64; 16] = [0; 16];
+    load_row(nb, vars, n, 6, &mut row);
+    evaluate::settle(x, 65535, &row[..vars], known, state);
+}
+
+// Entry e reads known; false; and known with the value z, which is 1 for true.
+fn known_at(known: &[u8], e: usize) -> bool
+    ensures { λ r. ⌜ r ≡ knownAt (now (known .entry)) e ⌝ }
+{
+    folder::byte_at(known, e) == 1
+}
+
+fn false_at(known: &[u8], values: &[i64], e: usize) -> bool
+    ensures { λ r. ⌜ r ≡ falseAt (now (known .entry)) (now (values .entry)) e ⌝ }
+{
+    known_at(known, e) & !whole::equal(evaluate::value_at(values, e), 1)
+}
+
+fn reads_at(known: &[u8], values: &[i64], e: usize, z: i64) -> bool
+    ensures { λ r. ⌜ r ≡ readsAt (now (known .entry)) (now (values .entry)) e z ⌝ }
+{
+    known_at(known, e) & whole::equal(evaluate::value_at(values, e), z)
+}
+
+// Every guard reads known.
+fn guards_known(m: &[u8], known: &[u8]) -> bool
+    requires { ⌜ Valid (now m) ⌝ }
+    ensures { λ r. ⌜ r ≡ all (λ c. knownAt (now (known .entry)) (modelOf (now (m .entry)) .guard c)) (modelOf (now (m .entry)) .commands) ⌝ }
+{
+    let cs = folder::body(m, 3);
+    let commands = command_count(m);
+    let mut c = 0;
+    while c < commands {
+        if known_at(known, folder::field(4, cs, c, 0)) {
+            c += 1;
+        } else {
+            return false;
+        }
+    }
+    true
+}
+
+// Row 19.
+pub fn a2(m: &[u8], g: &[u8], n: usize, known: &[u8], values: &[i64]) -> bool
+    requires { ⌜ NodeOf (now m) (now g) n ⌝ }
+    requires { ⌜ LabelSettled (now m) (now g) n (now known) (now values) ⌝ }
+    ensures { λ r. ⌜ r ≡ A2 (modelOf (now (m .entry))) (simulationOf (modelOf (now (m .entry))) (now (g .entry))) n ⌝ }
+{
+    let kind = node_field(m, g, n, 0);
+    let target = folder::field(4, folder::body(m, 0), 0, 1);
+    if kind == EXPANDED {
+        return guards_known(m, known) & false_at(known, values, target);
+    }
+    if kind == TARGET {
+        return reads_at(known, values, target, 1);
+    }
+    true
+}
+
+// Edge k of a node that has `edges` of them, which stands at p, is there and names the command c.
+fn names_at(eb: &[u8], edges: usize, k: usize, p: usize, c: usize) -> bool
+    requires { ⌜ p < 2 ^ 40 ⌝ }
+    ensures { λ r. ⌜ r ≡ namesAt (now (eb .entry)) edges k p c ⌝ }
+{
+    (k < edges) & (folder::u16_at(eb, p) == c)
+}
+
+// The edges of node n, from `at` on, name the commands whose guards read true, each once, ascending.
+fn edges_enabled(m: &[u8], g: &[u8], n: usize, at: usize, known: &[u8], values: &[i64]) -> bool
+    requires { ⌜ NodeOf (now m) (now g) n ⌝ }
+    requires { ⌜ at ≡ startsAt (modelOf (now m)) (now g) n ⌝ }
+    requires { ⌜ LabelSettled (now m) (now g) n (now known) (now values) ⌝ }
+    ensures { λ r. ⌜ r ≡ sameEdges (now (m .entry)) (now (g .entry)) n ⌝ }
+{
+    let cs = folder::body(m, 3);
+    let eb = folder::body(g, 1);
+    let commands = command_count(m);
+    let edges = node_field(m, g, n, 4);
+    let mut k = 0;
+    let mut p = at;
+    let mut c = 0;
+    while c < commands {
+        if reads_at(known, values, folder::field(4, cs, c, 0), 1) {
+            if names_at(eb, edges, k, p, c) {
+                p += graph::edge_size(cs, eb, p);
+                k += 1;
+            } else {
+                return false;
+            }
+        }
+        c += 1;
+    }
+    k == edges
+}
+
+// Row 20.
+pub fn b1(m: &[u8], g: &[u8], n: usize, at: usize, known: &[u8], values: &[i64]) -> bool
+    requires { ⌜ NodeOf (now m) (now g) n ⌝ }
+    requires { ⌜ at ≡ startsAt (modelOf (now m)) (now g) n ⌝ }
+    requires { ⌜ LabelSettled (now m) (now g) n (now known) (now values) ⌝ }
+    ensures { λ r. ⌜ r ≡ B1 (modelOf (now (m .entry))) (simulationOf (modelOf (now (m .entry))) (now (g .entry))) n ⌝ }
+{
+    if node_field(m, g, n, 0) == EXPANDED {
+        edges_enabled(m, g, n, at, known, values)
+    } else {
+        true
+    }
+}
+
+// Branch record r gives variable v what the node s has, and reads so in the label where s tracks v.
+fn variable_follows(
+    vars: usize,
+    nb: &[u8],
+    bs: &[u8],
+    known: &[u8],
+    values: &[i64],
+    state: &[i64],
+    r: usize,
+    s: usize,
+    v: usize,
+) -> bool
+    requires { ⌜ (vars ≤ 16) × (r ≤ 65536) × (s ≤ 65536) × (v < vars) ⌝ }
+    ensures { λ t. ⌜ t ≡ variableFollows vars (now (nb .entry)) (now (bs .entry)) (now (known .entry)) (now (values .entry)) (now (state .entry)) r s v ⌝ }
+{
+    let size = graph::node_size(vars);
+    let e = folder::field(2 + 2 * vars, bs, r, 1 + v);
+    let concrete = folder::signed_field(size, nb, s, 6 + v);
+    let label = folder::signed_field(size, nb, s, 6 + vars + v);
+    let tracked = evaluate::has_bit(folder::field(size, nb, s, 5), v);
+    whole::equal(concrete, evaluate::value_at(state, e))
+        & (!tracked | reads_at(known, values, e, label))
+}
+
+fn branch_follows(
+    vars: usize,
+    nb: &[u8],
+    bs: &[u8],
+    known: &[u8],
+    values: &[i64],
+    state: &[i64],
+    r: usize,
+    s: usize,
+) -> bool
+    requires { ⌜ (vars ≤ 16) × (r ≤ 65536) × (s ≤ 65536) ⌝ }
+    ensures { λ t. ⌜ t ≡ branchFollows vars (now (nb .entry)) (now (bs .entry)) (now (known .entry)) (now (values .entry)) (now (state .entry)) r s ⌝ }
+{
+    let mut v = 0;
+    while v < vars {
+        if variable_follows(vars, nb, bs, known, values, state, r, s, v) {
+            v += 1;
+        } else {
+            return false;
+        }
+    }
+    true
+}
+
+// Each branch of the edge at p: its records stand from `first` on.
+fn branches_follow(
+    vars: usize,
+    nb: &[u8],
+    bs: &[u8],
+    known: &[u8],
+    values: &[i64],
+    state: &[i64],
+    eb: &[u8],
+    first: usize,
+    branches: usize,
+    p: usize,
+) -> bool
+    requires { ⌜ (vars ≤ 16) × (first + branches ≤ 65536) × (p < 2 ^ 40) ⌝ }
+    ensures { λ t. ⌜ t ≡ branchesFollow vars (now (nb .entry)) (now (bs .entry)) (now (known .entry)) (now (values .entry)) (now (state .entry)) (now (eb .entry)) first branches p ⌝ }
+{
+    let mut b = 0;
+    while b < branches {
+        let s = folder::u16_at(eb, p + 2 + 2 * b);
+        if branch_follows(vars, nb, bs, known, values, state, first + b, s) {
+            b += 1;
+        } else {
+            return false;
+        }
+    }
+    true
+}
+
+// Each edge of node n, from `at` on.
+fn edges_follow(
+    m: &[u8],
+    g: &[u8],
+    n: usize,
+    at: usize,
+    firsts: &[usize],
+    known: &[u8],
+    values: &[i64],
+    state: &[i64],
+) -> bool
+    requires { ⌜ NodeOf (now m) (now g) n ⌝ }
+    requires { ⌜ at ≡ startsAt (modelOf (now m)) (now g) n ⌝ }
+    requires { ⌜ FirstsOf (now m) (now firsts) ⌝ }
+    requires { ⌜ LabelSettled (now m) (now g) n (now known) (now values) ⌝ }
+    requires { ⌜ StateSettled (now m) (now g) n (now state) ⌝ }
+    ensures { λ r. ⌜ r ≡ allFollow (now (m .entry)) (now (g .entry)) n ⌝ }
+{
+    let vars = graph::variable_count(m);
+    let cs = folder::body(m, 3);
+    let bs = folder::body(m, 4);
+    let nb = folder::body(g, 0);
+    let eb = folder::body(g, 1);
+    let edges = node_field(m, g, n, 4);
+    let mut p = at;
+    let mut e = 0;
+    while e < edges {
+        let c = folder::u16_at(eb, p);
+        let branches = folder::field(4, cs, c, 1);
+        let first = firsts[c];
+        if branches_follow(vars, nb, bs, known, values, state, eb, first, branches, p) {
+            p += 2 + 2 * branches;
+            e += 1;
+        } else {
+            return false;
+        }
+    }
+    true
+}
+
+// Row 21.
+pub fn b2(
+    m: &[u8],
+    g: &[u8],
+    n: usize,
+    at: usize,
+    firsts: &[usize],
+    known: &[u8],
+    values: &[i64],
+    state: &[i64],
+) -> bool
+    requires { ⌜ NodeOf (now m) (now g) n ⌝ }
+    requires { ⌜ at ≡ startsAt (modelOf (now m)) (now g) n ⌝ }
+    requires { ⌜ FirstsOf (now m) (now firsts) ⌝ }
+    requires { ⌜ LabelSettled (now m) (now g) n (now known) (now values) ⌝ }
+    requires { ⌜ StateSettled (now m) (now g) n (now state) ⌝ }
+    ensures { λ r. ⌜ r ≡ B2 (modelOf (now (m .entry))) (simulationOf (modelOf (now (m .entry))) (now (g .entry))) n ⌝ }
+{
+    if node_field(m, g, n, 0) == EXPANDED {
+        edges_follow(m, g, n, at, firsts, known, values, state)
+    } else {
+        true
+    }
+}

@@ -1,0 +1,50 @@
+use Prim.Native.Nat.{ℕ}
+use mathlib.Core.Path.{_≡_, sym, _∙_}
+use mathlib.Core.List.{List}
+use borrow.Author.Needs.{needs}
+use borrow.Author.Tests.{not-true, not-false}
+use denote.Ref.{now}
+use lib.ListN.{drop}
+use Rattle.folder.specs.Table.{Rule}
+use Rattle.model.specs.Model.{modelOf}
+use Rattle.graph.specs.Simulation.{simulationOf}
+use Rattle.graph.specs.Table.{nodeRules}
+use Rattle.nodes.specs.Ready.{coverRules}
+use Rattle.nodes.proofs.RuleLaws.{Left, no-rule, rule-breaks, rule-holds, first-rules, then-rules}
+use Rattle.nodes.proofs.NodeLaws.{few-enough, firsts-of, reading-numbered}
+use Rattle.nodes.proofs.first_broken.Statement.{statement}
+use Rattle.nodes.proofs.first_broken.Tie as tie
+
+abbrev rules : tie.Start → List Rule
+rules c = nodeRules (modelOf (now (c .args .m))) (simulationOf (modelOf (now (c .args .m))) (now (c .args .g))) (c .args .n)
+
+abbrev covering : tie.Start → List Rule
+covering c = coverRules (now (c .args .m)) (now (c .args .g)) (c .args .n)
+
+past1 : (c : tie.Else1) → Left (rules (c .before .before .before .before .before .before .before)) (drop 1 (rules (c .before .before .before .before .before .before .before)))
+past1 c = rule-holds (no-rule _) (c .before .a1 .ensures) (not-false _ (c .if1 .left))
+
+a1-requires : tie.Need-a1-requires
+a1-requires c κs = few-enough (c .before .before .before .before .before .pre .0)
+
+returns : tie.Need-returns
+returns c = rule-breaks (no-rule _) (c .before .a1 .ensures) (not-true _ (c .if1 .taken))
+
+reading-rules-requires : tie.Need-reading-rules-requires
+reading-rules-requires c κs = let s = c .before .before .before .before .before .before .before in
+    (s .pre .0, (sym (c .before .a1 .ensures) ∙ not-false _ (c .if1 .left), (s .pre .1 .1, firsts-of (s .pre .1 .0))))
+
+returns-2 : tie.Need-returns-2
+returns-2 c = first-rules (covering (c .before .before .before .before .before .before .before .before .before)) (reading-numbered _ _ _) (c .before .reading-rules .ensures) (c .if2 .taken) ∙ sym (past1 (c .before .before) .same)
+
+returns-3 : tie.Need-returns-3
+returns-3 c =
+    let none : _≡_ {A = ℕ} 0 (c .before .before .reading-rules .result) = sym (c .before .if2 .left) in
+    c .cover-rules .ensures
+    ∙ sym (then-rules (covering (c .before .before .before .before .before .before .before .before .before .before)) (reading-numbered _ _ _) (none ∙ c .before .before .reading-rules .ensures))
+    ∙ sym (past1 (c .before .before .before) .same)
+
+pub first-broken-spec : {M : Type 1} → statement M
+first-broken-spec =
+    tie.close
+    (tie.spec a1-requires returns reading-rules-requires returns-2 (λ c κs. search needs) returns-3)

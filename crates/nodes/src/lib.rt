@@ -1,0 +1,156 @@
+// The graph check's rows 18 to 25: the rules of each node, finished for one node before the next.
+use folder::Outcome;
+ghost use mathlib.Core.Path.{_≡_};
+ghost use mathlib.Core.Bool.{true};
+ghost use Prim.Native.Nat.{_+_};
+ghost use lib.ListN.{drop};
+ghost use Rattle.folder.specs.Table.{firstBroken, outcome};
+ghost use Rattle.model.specs.Model.{modelOf};
+ghost use Rattle.model.specs.Valid.{Valid};
+ghost use Rattle.graph.specs.Simulation.{simulationOf};
+ghost use Rattle.graph.specs.Rules.{A1};
+ghost use Rattle.graph.specs.Table.{nodeRules, graphRows};
+ghost use Rattle.graph.specs.Rows.{RowsRight};
+ghost use Rattle.graph.specs.Walks.{startsAt};
+ghost use Rattle.expand.specs.Node.{NodeOf, FirstsOf};
+ghost use Rattle.nodes.specs.Ready.{Ready, readingRules, coverRules};
+
+fn skip_edges(m: &[u8], g: &[u8], n: usize, at: usize) -> usize
+    requires { ⌜ NodeOf (now m) (now g) n ⌝ }
+    requires { ⌜ at ≡ startsAt (modelOf (now m)) (now g) n ⌝ }
+    ensures { λ r. ⌜ r ≡ startsAt (modelOf (now (m .entry))) (now (g .entry)) (n + 1) ⌝ }
+{
+    let size = graph::node_size(graph::variable_count(m));
+    let cs = folder::body(m, 3);
+    let ns = folder::body(g, 0);
+    let es = folder::body(g, 1);
+    let count = folder::field(size, ns, n, 4);
+    let mut k = at;
+    let mut e = 0;
+    while e < count {
+        k += graph::edge_size(cs, es, k);
+        e += 1;
+    }
+    k
+}
+
+// A2, B1 and B2 of a node that keeps A1: the number of the first broken one, or 0.
+fn reading_rules(m: &[u8], g: &[u8], n: usize, at: usize, firsts: &[usize]) -> usize
+    requires { ⌜ NodeOf (now m) (now g) n ⌝ }
+    requires { ⌜ A1 (modelOf (now m)) (simulationOf (modelOf (now m)) (now g)) n ≡ true ⌝ }
+    requires { ⌜ at ≡ startsAt (modelOf (now m)) (now g) n ⌝ }
+    requires { ⌜ FirstsOf (now m) (now firsts) ⌝ }
+    ensures { λ r. ⌜ r ≡ firstBroken (readingRules (now (m .entry)) (now (g .entry)) n) ⌝ }
+{
+    let mut known = [0u8; 512];
+    let mut values = [0i64; 512];
+    expand::settle_label(m, g, n, &mut known, &mut values);
+    if !expand::a2(m, g, n, &known, &values) {
+        return 19;
+    }
+    if !expand::b1(m, g, n, at, &known, &values) {
+        return 20;
+    }
+    let mut flags = [0u8; 512];
+    let mut state = [0i64; 512];
+    expand::settle_state(m, g, n, &mut flags, &mut state);
+    if expand::b2(m, g, n, at, firsts, &known, &values, &state) {
+        0
+    } else {
+        21
+    }
+}
+
+// C3, C1, C2 and the value rule.
+fn cover_rules(
+    m: &[u8],
+    g: &[u8],
+    n: usize,
+    at: usize,
+    values: &[u32],
+    weights: &[usize],
+    firsts: &[usize],
+) -> usize
+    requires { ⌜ NodeOf (now m) (now g) n ⌝ }
+    requires { ⌜ Ready (now m) (now g) (now values) (now weights) (now firsts) ⌝ }
+    requires { ⌜ at ≡ startsAt (modelOf (now m)) (now g) n ⌝ }
+    ensures { λ r. ⌜ r ≡ firstBroken (coverRules (now (m .entry)) (now (g .entry)) n) ⌝ }
+{
+    if !labels::c3(m, g, n) {
+        return 22;
+    }
+    if !labels::c1(m, g, n) {
+        return 23;
+    }
+    if !labels::c2(m, g, n) {
+        return 24;
+    }
+    if labels::value_fits(m, g, values, weights, firsts, n, at) {
+        0
+    } else {
+        25
+    }
+}
+
+// The number of node n's first broken rule, or 0.
+fn first_broken(
+    m: &[u8],
+    g: &[u8],
+    n: usize,
+    at: usize,
+    values: &[u32],
+    weights: &[usize],
+    firsts: &[usize],
+) -> usize
+    requires { ⌜ NodeOf (now m) (now g) n ⌝ }
+    requires { ⌜ Ready (now m) (now g) (now values) (now weights) (now firsts) ⌝ }
+    requires { ⌜ at ≡ startsAt (modelOf (now m)) (now g) n ⌝ }
+    ensures { λ r. ⌜ r ≡ firstBroken (nodeRules (modelOf (now (m .entry))) (simulationOf (modelOf (now (m .entry))) (now (g .entry))) n) ⌝ }
+{
+    if !labels::a1(m, g, n) {
+        return 18;
+    }
+    let broken = reading_rules(m, g, n, at, firsts);
+    if broken != 0 {
+        return broken;
+    }
+    cover_rules(m, g, n, at, values, weights, firsts)
+}
+
+// The rules of all nodes, with the tables they look in.
+fn all_nodes(m: &[u8], g: &[u8], values: &[u32], weights: &[usize], firsts: &[usize]) -> Outcome
+    requires { ⌜ Ready (now m) (now g) (now values) (now weights) (now firsts) ⌝ }
+    ensures { λ r. ⌜ r ≡ outcome (drop 6 (graphRows (modelOf (now (m .entry))) (now (g .entry)))) ⌝ }
+{
+    let nodes = graph::node_count(m, g);
+    let mut n = 0;
+    let mut at = 0;
+    while n < nodes {
+        let broken = first_broken(m, g, n, at, values, weights, firsts);
+        if broken != 0 {
+            return folder::refuse(broken, n);
+        }
+        at = skip_edges(m, g, n, at);
+        n += 1;
+    }
+    Outcome::Accepted
+}
+
+// Rows 18 to 25 of a graph that keeps rows 12 to 17.
+pub fn check_nodes(m: &[u8], g: &[u8]) -> Outcome
+    requires { ⌜ Valid (now m) ⌝ }
+    requires { ⌜ RowsRight (modelOf (now m)) (now g) ⌝ }
+    ensures { λ r. ⌜ r ≡ outcome (drop 6 (graphRows (modelOf (now (m .entry))) (now (g .entry)))) ⌝ }
+{
+    let mut values = [0u32; 4096];
+    let mut weights = [0usize; 1024];
+    let mut firsts = [0usize; 64];
+    labels::fill_values(m, g, &mut values);
+    rounds::fill_weights(
+        2 + 2 * graph::variable_count(m),
+        folder::body(m, 4),
+        &mut weights,
+    );
+    rounds::fill_firsts(folder::body(m, 3), &mut firsts);
+    all_nodes(m, g, &values, &weights, &firsts)
+}

@@ -1,0 +1,3 @@
+mod Casts
+mod FillLaws
+mod StepLaws

@@ -1,0 +1,31 @@
+-- What the code of a step stands on, over the bodies of the model folder.
+-- Assumes nothing.
+use Prim.Native.Nat.{ℕ, _+_, _<_, _≤_}
+use mathlib.Core.Bool.{Bool}
+use mathlib.Core.List.{List}
+use lib.ListN.{length}
+use lib.IntN.{ℤ}
+use lib.Signed.{mag}
+use Rattle.folder.specs.Contents.{field, signedField}
+use Rattle.expressions.specs.Entries.{entriesOf}
+use Rattle.expressions.specs.Meaning.{State, valueOf, numberIn}
+use Rattle.expressions.specs.Right.{IsNumber}
+use Rattle.evaluate.specs.Formed.{Grounded}
+use Rattle.model.specs.Rules.{between}
+
+-- Row 30: the value of variable v is in its range, by the variable body y.
+abbrev pub fitsIn : List ℕ → State → ℕ → Bool
+fitsIn y s v = between (signedField 6 y v 0) (signedField 6 y v 1) (valueOf s v)
+
+-- What record r of the branch body b gives variable v in the state s.
+abbrev pub assignedIn : List ℕ → List ℕ → ℕ → ℕ → State → ℕ → ℤ
+assignedIn x b size r s v = numberIn (entriesOf x) s (field size b r (1 + v))
+
+-- Each expression of branch record r is a number that can be read in s, and its value fits 16 bits.
+pub record Stepping (x b : List ℕ) (size r : ℕ) (s : State) : Type 0 where
+  pub size-small : size ≤ 65536
+  pub record-small : r ≤ 65536
+  pub few : length s ≤ 16
+  pub grounded : Grounded (entriesOf x) s
+  pub number : (v : ℕ) → v < length s → IsNumber (entriesOf x) (field size b r (1 + v))
+  pub fits : (v : ℕ) → v < length s → mag (assignedIn x b size r s v) ≤ 30000
