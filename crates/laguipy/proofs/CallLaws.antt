@@ -3,6 +3,7 @@
 use Prim.Native.Nat.{ℕ}
 use mathlib.Core.Path.{_≡_, refl, sym, ap, _∙_}
 use mathlib.Core.List.{List, _++_, append-assoc}
+use Rattle.folder.specs.Pick.{pick}
 use Rattle.folder.specs.Table.{Row, outcome}
 use Rattle.folder.specs.declared.Refusal.{Refusal}
 use Rattle.folder.specs.declared.Outcome.{Outcome}
@@ -12,7 +13,7 @@ use Rattle.model.specs.Model.{modelOf}
 use Rattle.model.specs.Table.{modelRows, modelOutcome}
 use Rattle.graph.specs.Simulation.{simulationOf}
 use Rattle.graph.specs.Table.{graphRows, graphOutcome, summary, graphAnswer}
-use Rattle.graph.specs.Figures.{figureRows, figureOutcome}
+use Rattle.graph.specs.Figures.{figureRows, figureOutcome, firstOf, secondOf, partOf, partInFirst, firstRow, secondRow, figurePart, figureInFirst}
 use Rattle.graph.specs.declared.GraphAnswer.the-variants as Answer
 
 -- ---- the graph check, after the model check's outcome
@@ -46,3 +47,21 @@ module _ (m g : List ℕ) (h : ℕ) (first second : List ℕ) where
   pub figure-goes-on : graphOutcome m g ≡ Accepted → figureOutcome m g h first second ≡ outcome (figureRows (simulationOf (modelOf m) g) h first second)
   unfolding graphOutcome
   figure-goes-on e = figure-rows-after ∙ accepted-then (modelRows m ++ graphRows (modelOf m) g) (figureRows (simulationOf (modelOf m) g) h first second) e
+
+  -- ---- what it leaves, by its outcome
+  module _ {o : Outcome} (e : figureOutcome m g h first second ≡ o) where
+    pub first-is : firstRow m g h first second ≡ firstOf (modelOf m) (simulationOf (modelOf m) g) h o first
+    unfolding firstRow
+    first-is = ap (λ (a : Outcome). firstOf (modelOf m) (simulationOf (modelOf m) g) h a first) e
+
+    pub second-is : secondRow m g h first second ≡ secondOf (modelOf m) (simulationOf (modelOf m) g) h o second
+    unfolding secondRow
+    second-is = ap (λ (a : Outcome). secondOf (modelOf m) (simulationOf (modelOf m) g) h a second) e
+
+    pub part-is : figurePart m g h first second ≡ partOf (modelOf m) (simulationOf (modelOf m) g) h o
+    unfolding figurePart
+    part-is = ap (partOf (modelOf m) (simulationOf (modelOf m) g) h) e
+
+    pub starts-in : {A : Type 0} (p q : A) → pick (figureInFirst m g h first second) p q ≡ pick (partInFirst (modelOf m) (simulationOf (modelOf m) g) h o) p q
+    unfolding figureInFirst
+    starts-in p q = ap (λ (a : Outcome). pick (partInFirst (modelOf m) (simulationOf (modelOf m) g) h a) p q) e

@@ -1,1 +1,153 @@
-// Laguipy: machine-checked answers about probabilistic systems. specs/Cases.antt has document 01's cases for proof.
+// Laguipy: machine-checked answers about probabilistic systems. The calls of document 01 on two folders' bytes. None asks
+// anything of its arguments; each contract gives the answer and every row's content as equal to a definition, and
+// proofs/Demand.antt says what an accepted graph gives.
+use folder::Outcome;
+use graph::GraphAnswer;
+use graph::Summary;
+ghost use mathlib.Core.Path.{_≡_};
+ghost use Rattle.folder.specs.Pick.{pick};
+ghost use Rattle.folder.specs.Table.{outcome};
+ghost use Rattle.model.specs.Model.{modelOf};
+ghost use Rattle.model.specs.Table.{modelOutcome};
+ghost use Rattle.model.specs.Step.{stepOutcome, stepRow};
+ghost use Rattle.model.specs.Valid as Models;
+ghost use Rattle.graph.specs.Simulation.{simulationOf};
+ghost use Rattle.graph.specs.Table.{graphRows, graphOutcome, graphAnswer, summary};
+ghost use Rattle.graph.specs.Figures.{figureOutcome, firstRow, secondRow, figurePart, figureInFirst};
+ghost use Rattle.graph.specs.Valid.{Valid};
+
+// The model check: rows 1 to 11.
+pub fn model_check(model: &[u8]) -> Outcome
+    ensures { λ r. ⌜ r ≡ modelOutcome (now (model .entry)) ⌝ }
+{
+    model::check_model(model)
+}
+
+// Rows 12 to 25 of a graph of an accepted model.
+fn graph_rows(m: &[u8], g: &[u8]) -> Outcome
+    requires { ⌜ Models.Valid (now m) ⌝ }
+    ensures { λ r. ⌜ r ≡ outcome (graphRows (modelOf (now (m .entry))) (now (g .entry))) ⌝ }
+{
+    let o = graph::check_rows(m, g);
+    match o {
+        Outcome::Refused(f) => Outcome::Refused(f),
+        Outcome::Accepted => nodes::check_nodes(m, g),
+    }
+}
+
+// Rows 1 to 25.
+fn graph_outcome(m: &[u8], g: &[u8]) -> Outcome
+    ensures { λ r. ⌜ r ≡ graphOutcome (now (m .entry)) (now (g .entry)) ⌝ }
+{
+    let o = model::check_model(m);
+    match o {
+        Outcome::Refused(f) => Outcome::Refused(f),
+        Outcome::Accepted => graph_rows(m, g),
+    }
+}
+
+// What an accepted graph has.
+fn summary_of(m: &[u8], g: &[u8]) -> Summary
+    requires { ⌜ Valid (now m) (now g) ⌝ }
+    ensures { λ r. ⌜ r ≡ summary (simulationOf (modelOf (now (m .entry))) (now (g .entry))) ⌝ }
+{
+    let waiting = graph::kind_count(m, g, 0);
+    let expanded = graph::kind_count(m, g, 1);
+    let covered = graph::kind_count(m, g, 2);
+    let target = graph::kind_count(m, g, 3);
+    let root = root_value(m, g);
+    Summary {
+        root,
+        waiting,
+        expanded,
+        covered,
+        target,
+    }
+}
+
+fn root_value(m: &[u8], g: &[u8]) -> usize
+    requires { ⌜ Valid (now m) (now g) ⌝ }
+    ensures { λ r. ⌜ r ≡ simulationOf (modelOf (now (m .entry))) (now (g .entry)) .value 0 ⌝ }
+{
+    let size = graph::node_size(graph::variable_count(m));
+    folder::field4(size, folder::body(g, 0), 0, 2)
+}
+
+// The graph check: the model's rows first, then 12 to 25.
+pub fn graph_check(model: &[u8], graph: &[u8]) -> GraphAnswer
+    ensures { λ r. ⌜ r ≡ graphAnswer (now (model .entry)) (now (graph .entry)) ⌝ }
+{
+    let o = graph_outcome(model, graph);
+    match o {
+        Outcome::Refused(f) => GraphAnswer::Refused(f),
+        Outcome::Accepted => GraphAnswer::Accepted(summary_of(model, graph)),
+    }
+}
+
+// What the figure call on these arguments answers. Nothing is written.
+pub fn figure_refusal(
+    model: &[u8],
+    graph: &[u8],
+    h: usize,
+    first: &[u32],
+    second: &[u32],
+) -> Outcome
+    ensures { λ r. ⌜ r ≡ figureOutcome (now (model .entry)) (now (graph .entry)) h (now (first .entry)) (now (second .entry)) ⌝ }
+{
+    let o = graph_outcome(model, graph);
+    match o {
+        Outcome::Refused(f) => Outcome::Refused(f),
+        Outcome::Accepted => figures::figure_check(model, graph, h, first, second),
+    }
+}
+
+// The figure call, by its answer: round h in the row of its parity, round h - 1 in the other.
+pub fn figure_rows(
+    model: &[u8],
+    graph: &[u8],
+    h: usize,
+    first: &mut [u32],
+    second: &mut [u32],
+) -> Outcome
+    ensures { λ r. ⌜ r ≡ figureOutcome (now (model .entry)) (now (graph .entry)) h (now (first .entry)) (now (second .entry)) ⌝ }
+    ensures { λ _. ⌜ now (first .exit) ≡ firstRow (now (model .entry)) (now (graph .entry)) h (now (first .entry)) (now (second .entry)) ⌝ }
+    ensures { λ _. ⌜ now (second .exit) ≡ secondRow (now (model .entry)) (now (graph .entry)) h (now (first .entry)) (now (second .entry)) ⌝ }
+{
+    let o = graph_outcome(model, graph);
+    match o {
+        Outcome::Refused(f) => Outcome::Refused(f),
+        Outcome::Accepted => figures::figure_fill(model, graph, h, first, second),
+    }
+}
+
+// The figure call, by the part of the row that holds the figures; refused, the empty part of the first row.
+pub fn figure<'a>(
+    model: &[u8],
+    graph: &[u8],
+    h: usize,
+    first: &'a mut [u32],
+    second: &'a mut [u32],
+) -> &'a mut [u32]
+    ensures { λ r. ⌜ now r ≡ figurePart (now (model .entry)) (now (graph .entry)) h (now (first .entry)) (now (second .entry)) ⌝ }
+    ensures { λ r. ⌜ r .ptr ≡ pick (figureInFirst (now (model .entry)) (now (graph .entry)) h (now (first .entry)) (now (second .entry))) (first .entry .ptr) (second .entry .ptr) ⌝ }
+{
+    let o = graph_outcome(model, graph);
+    match o {
+        Outcome::Refused(_) => &mut first[..0],
+        Outcome::Accepted => figures::figure_part(model, graph, h, first, second),
+    }
+}
+
+// The step of a state by a branch of a command, into a lent row.
+pub fn step(
+    model: &[u8],
+    state: &[i16],
+    command: usize,
+    branch: usize,
+    result: &mut [i16],
+) -> Outcome
+    ensures { λ r. ⌜ r ≡ stepOutcome (now (model .entry)) (now (state .entry)) command branch (now (result .entry)) ⌝ }
+    ensures { λ _. ⌜ now (result .exit) ≡ stepRow (now (model .entry)) (now (state .entry)) command branch (now (result .entry)) ⌝ }
+{
+    step::step(model, state, command, branch, result)
+}
