@@ -5,10 +5,12 @@ use folder::Outcome;
 use graph::GraphAnswer;
 use graph::Summary;
 ghost use mathlib.Core.Path.{_≡_};
+ghost use Prim.Native.Nat.{_+_};
 ghost use Rattle.folder.specs.Pick.{pick};
 ghost use Rattle.folder.specs.Table.{outcome};
 ghost use Rattle.model.specs.Model.{modelOf};
 ghost use Rattle.model.specs.Table.{modelOutcome};
+ghost use Rattle.model.specs.View.{viewStart, viewPart};
 ghost use Rattle.model.specs.Step.{stepOutcome, stepRow};
 ghost use Rattle.model.specs.Valid as Models;
 ghost use Rattle.graph.specs.Simulation.{simulationOf};
@@ -21,6 +23,15 @@ pub fn model_check(model: &[u8]) -> Outcome
     ensures { λ r. ⌜ r ≡ modelOutcome (now (model .entry)) ⌝ }
 {
     model::check_model(model)
+}
+
+// The view: record i of body e, as a part of the folder. Where the folder breaks rows 1 to 3, or has no such body or
+// record, the empty part at its start.
+pub fn record_part(model: &[u8], e: usize, i: usize) -> &[u8]
+    ensures { λ r. ⌜ now r ≡ viewPart (now (model .entry)) e i ⌝ }
+    ensures { λ r. ⌜ r .ptr ≡ (model .entry .ptr .0, viewStart (now (model .entry)) e i + model .entry .ptr .1) ⌝ }
+{
+    model::record_part(model, e, i)
 }
 
 // Rows 12 to 25 of a graph of an accepted model.
