@@ -7,13 +7,16 @@ use native.Mathlib.Omega.{arith}
 use mathlib.Core.Path.{_≡_, refl, sym, ap, _∙_}
 use mathlib.Core.List.{List}
 use lib.ListN.{length, getD, replicate, getD-replicate, length-replicate, List·getD-eq-default}
+use borrow.Author.Tests.{ne-eqb}
+use Rattle.folder.specs.Table.{firstBroken}
 use Rattle.folder.specs.Fields.{u16, u32}
 use Rattle.folder.specs.Contents.{body, countOf, field4}
 use Rattle.model.specs.Limits.{mostVariables}
 use Rattle.model.specs.Layout.{variableCount}
 use Rattle.model.specs.Model.{modelOf}
 use Rattle.model.specs.Valid.{Valid}
-use Rattle.graph.specs.Simulation.{nodeSize, nodeCount, simulationOf}
+use Rattle.graph.specs.Simulation.{nodeSize, nodeField, nodeCount, simulationOf}
+use Rattle.graph.specs.Rules.{A2, B1, B2}
 use Rattle.graph.specs.Rows.{RowsRight}
 use Rattle.graph.specs.Table.{nodeRules}
 use Rattle.graph.specs.Walks.{startsAt}
@@ -31,6 +34,11 @@ module _ (m g : List ℕ) (n : ℕ) where
 
   pub node-numbered : Numbered (nodeRules (modelOf m) (simulationOf (modelOf m) g) n)
   node-numbered = more 17 (more 18 (more 19 (more 20 (more 21 (more 22 (more 23 (more 24 none)))))))
+
+-- A2, B1 and B2 ask nothing of a node that is neither expanded nor a target.
+pub nothing-asked : (m g : List ℕ) (n : ℕ) {kind : ℕ} → kind ≡ nodeField (modelOf m) g n 0 → (kind ≡ 1 → ⊥) → (kind ≡ 3 → ⊥) → 0 ≡ firstBroken (readingRules m g n)
+unfolding A2 B1 B2 firstBroken
+nothing-asked m g n e a b = rw (ne-eqb (nodeField (modelOf m) g n 0) 1 (λ q. a (e ∙ q)), ne-eqb (nodeField (modelOf m) g n 0) 3 (λ q. b (e ∙ q))) refl
 
 pub few-enough : {m g : List ℕ} {n : ℕ} → NodeOf m g n → (variableCount m ≤ mostVariables) × (n ≤ 65536)
 few-enough node = (few-variables (node .model), omega (arith, node .there, node .rows .folder .few))

@@ -34,8 +34,8 @@ fn skip_edges(m: &[u8], g: &[u8], n: usize, at: usize) -> usize
     k
 }
 
-// A2, B1 and B2 of a node that keeps A1: the number of the first broken one, or 0.
-fn reading_rules(m: &[u8], g: &[u8], n: usize, at: usize, firsts: &[usize]) -> usize
+// A2, B1 and B2 of a node that keeps A1, from its readings: the number of the first broken one, or 0.
+fn settled_rules(m: &[u8], g: &[u8], n: usize, at: usize, firsts: &[usize]) -> usize
     requires { ⌜ NodeOf (now m) (now g) n ⌝ }
     requires { ⌜ A1 (modelOf (now m)) (simulationOf (modelOf (now m)) (now g)) n ≡ true ⌝ }
     requires { ⌜ at ≡ startsAt (modelOf (now m)) (now g) n ⌝ }
@@ -59,6 +59,25 @@ fn reading_rules(m: &[u8], g: &[u8], n: usize, at: usize, firsts: &[usize]) -> u
     } else {
         21
     }
+}
+
+// A2, B1 and B2. They ask something of expanded and target nodes only: other labels are not read.
+fn reading_rules(m: &[u8], g: &[u8], n: usize, at: usize, firsts: &[usize]) -> usize
+    requires { ⌜ NodeOf (now m) (now g) n ⌝ }
+    requires { ⌜ A1 (modelOf (now m)) (simulationOf (modelOf (now m)) (now g)) n ≡ true ⌝ }
+    requires { ⌜ at ≡ startsAt (modelOf (now m)) (now g) n ⌝ }
+    requires { ⌜ FirstsOf (now m) (now firsts) ⌝ }
+    ensures { λ r. ⌜ r ≡ firstBroken (readingRules (now (m .entry)) (now (g .entry)) n) ⌝ }
+{
+    let size = graph::node_size(graph::variable_count(m));
+    let kind = folder::field(size, folder::body(g, 0), n, 0);
+    if kind == 1 {
+        return settled_rules(m, g, n, at, firsts);
+    }
+    if kind == 3 {
+        return settled_rules(m, g, n, at, firsts);
+    }
+    0
 }
 
 // C3, C1, C2 and the value rule.
