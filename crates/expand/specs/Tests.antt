@@ -9,13 +9,12 @@ use lib.IntN.{ℤ, pos}
 use Rattle.folder.specs.Pick.{implies}
 use Rattle.folder.specs.Scan.{all}
 use Rattle.folder.specs.Tab.{tab, passing, sameList}
-use Rattle.folder.specs.Fields.{u16}
 use Rattle.folder.specs.Contents.{field, signedField}
 use Rattle.whole.specs.Order.{eqZ}
 use Rattle.expressions.specs.Reading.{hasBit}
 use Rattle.model.specs.Layout.{branchSize}
 use Rattle.model.specs.Model.{modelOf}
-use Rattle.graph.specs.Simulation.{nodeSize, simulationOf}
+use Rattle.graph.specs.Simulation.{nodeSize, commandIn, successorIn, simulationOf}
 use Rattle.graph.specs.Rules.{enabledIn, edgeFollows}
 
 -- Entry e reads known, false, or known with the value z, which is 1 for true.
@@ -33,7 +32,7 @@ trueAt known values e = readsAt known values e (pos 1)
 
 -- Edge k of a node that has `edges` of them, which stands at p, is there and names the command c.
 abbrev pub namesAt : List ℕ → ℕ → ℕ → ℕ → ℕ → Bool
-namesAt eb edges k p c = ltb k edges && eqb (u16 eb p) c
+namesAt eb edges k p c = ltb k edges && eqb (commandIn eb p) c
 
 -- nb is the body of nodes, and bs that of branch records.
 module _ (variables : ℕ) (nb bs known : List ℕ) (values state : List ℤ) where
@@ -48,7 +47,7 @@ module _ (variables : ℕ) (nb bs known : List ℕ) (values state : List ℤ) wh
   branchFollows r s = all (variableFollows r s) variables
 
   unfoldable pub branchesFollow : List ℕ → ℕ → ℕ → ℕ → Bool
-  branchesFollow eb first branches p = all (λ b. branchFollows (first + b) (u16 eb (p + 2 + 2 * b))) branches
+  branchesFollow eb first branches p = all (λ b. branchFollows (first + b) (successorIn eb p b)) branches
 
 -- What B1 and B2 ask of an expanded node n.
 module _ (m g : List ℕ) (n : ℕ) where

@@ -21,11 +21,21 @@ bodies = 2
 abbrev pub nodeSize : ℕ → ℕ
 nodeSize variables = 12 + 4 * variables
 
--- Edges stand in node order: a command, then one node number per branch. `b` is their body.
+-- An edge at position k of the body b: a command, then one node number per branch. Its bytes, by its branch count.
+abbrev pub edgeBytes : ℕ → ℕ
+edgeBytes branches = 2 + 2 * branches
+
+abbrev pub commandIn : List ℕ → ℕ → ℕ
+commandIn b k = u16 b k
+
+abbrev pub successorIn : List ℕ → ℕ → ℕ → ℕ
+successorIn b k branch = u16 b (k + 2 + 2 * branch)
+
+-- Edges stand in node order. `b` is their body.
 module _ (M : Model) (b : List ℕ) where
   -- Bytes of the edge at position k.
   unfoldable pub edgeSize : ℕ → ℕ
-  edgeSize k = 2 + 2 * M .branches (u16 b k)
+  edgeSize k = edgeBytes (M .branches (commandIn b k))
 
   -- Where the edge that is j edges after the one at k stands.
   unfoldable pub edgeAfter : ℕ → ℕ → ℕ
@@ -83,8 +93,8 @@ module _ (M : Model) (g : List ℕ) where
     tracked = λ n. nodeField n 5;
     concrete = λ n v. signedNodeField n (6 + v);
     label = λ n v. signedNodeField n (6 + M .variables + v);
-    command = λ n e. u16 (body g 1) (edgeAt n e);
-    successor = λ n e b. u16 (body g 1) (edgeAt n e + 2 + 2 * b);
+    command = λ n e. commandIn (body g 1) (edgeAt n e);
+    successor = λ n e b. successorIn (body g 1) (edgeAt n e) b;
     whole = λ n e. edgeWhole M (body g 1) (edgeAt n e);
     spent = eqb (edgesStart M (body g 1) (λ i. nodeField i 4) nodeCount) (length (body g 1));
   }

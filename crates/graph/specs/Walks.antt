@@ -1,17 +1,16 @@
 -- What the code holds while it goes over nodes and edges: bodies as slices of their own, and a position among the edges.
 -- Assumes nothing.
-use Prim.Native.Nat.{ℕ, _+_, _*_, _≤_, _<_}
+use Prim.Native.Nat.{ℕ, _+_, _≤_, _<_}
 use mathlib.Core.Path.{_≡_}
 use mathlib.Core.Bool.{Bool, _&&_}
 use mathlib.Core.List.{List}
 use lib.ListN.{length}
 use lib.Dec.{ltb}
 use Rattle.folder.specs.Scan.{firstBad, all}
-use Rattle.folder.specs.Fields.{u16}
 use Rattle.folder.specs.Contents.{body}
 use Rattle.model.specs.Model.{Model}
 use Rattle.model.specs.Layout.{variableCount}
-use Rattle.graph.specs.Simulation.{edgeSize, edgeAfter, edgesStart, edgeWhole, nodeField}
+use Rattle.graph.specs.Simulation.{commandIn, successorIn, edgeSize, edgeAfter, edgesStart, edgeWhole, nodeField}
 
 -- vs is the variable body of the model folder m, which has `variables` of them, and ns the node body of the graph folder g.
 pub record NodeBodies (m g : List ℕ) (variables : ℕ) (vs ns : List ℕ) : Type 0 where
@@ -25,12 +24,12 @@ startsAt M g n = edgesStart M (body g 1) (λ i. nodeField M g i 4) n
 
 -- Branch b of the edge at position k of the edge body es leads to one of `nodes` nodes.
 abbrev pub successorFits : ℕ → List ℕ → ℕ → ℕ → Bool
-successorFits nodes es k b = ltb (u16 es (k + 2 + 2 * b)) nodes
+successorFits nodes es k b = ltb (successorIn es k b) nodes
 
 module _ (M : Model) (nodes : ℕ) (es : List ℕ) where
   -- Row 16 at the edge at k.
   unfoldable pub edgeFitsAt : ℕ → Bool
-  edgeFitsAt k = (ltb (u16 es k) (M .commands) && edgeWhole M es k) && all (successorFits nodes es k) (M .branches (u16 es k))
+  edgeFitsAt k = (ltb (commandIn es k) (M .commands) && edgeWhole M es k) && all (successorFits nodes es k) (M .branches (commandIn es k))
 
   -- The edge at k fits, as `ok` says, and ends at `next`.
   pub record EdgeAt (k : ℕ) (ok : Bool) (next : ℕ) : Type 0 where
@@ -49,5 +48,5 @@ module _ (M : Model) (nodes : ℕ) (es : List ℕ) where
   -- The edge at k as a rule: it ends by the body's end, and its command and its successors are there.
   pub record EdgeThere (k : ℕ) : Type 0 where
     pub ends : k + edgeSize M es k ≤ length es
-    pub command : u16 es k < M .commands
-    pub successors : (b : ℕ) → b < M .branches (u16 es k) → u16 es (k + 2 + 2 * b) < nodes
+    pub command : commandIn es k < M .commands
+    pub successors : (b : ℕ) → b < M .branches (commandIn es k) → successorIn es k b < nodes

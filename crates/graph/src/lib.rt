@@ -61,12 +61,6 @@ fn implies(a: bool, b: bool) -> bool
     !a | b
 }
 
-fn equal(a: i64, b: i64) -> bool
-    ensures { λ r. ⌜ r ≡ eqZ a b ⌝ }
-{
-    (a <= b) & (b <= a)
-}
-
 fn between(low: i64, high: i64, x: i64) -> bool
     ensures { λ r. ⌜ r ≡ between low high x ⌝ }
 {
@@ -129,7 +123,7 @@ fn value_fits(variables: usize, vs: &[u8], ns: &[u8], n: usize, v: usize) -> boo
     let tracked = has_bit(folder::field(size, ns, n, 5), v);
     let concrete = folder::signed_field(size, ns, n, 6 + v);
     let label = folder::signed_field(size, ns, n, 6 + variables + v);
-    between(low, high, concrete) & implies(!tracked, equal(label, 0))
+    between(low, high, concrete) & implies(!tracked, whole::equal(label, 0))
 }
 
 fn first_bad_value(variables: usize, vs: &[u8], ns: &[u8], n: usize) -> usize
@@ -286,7 +280,7 @@ fn root_fits_at(variables: usize, vs: &[u8], ns: &[u8], v: usize) -> bool
     let size = node_size(variables);
     let concrete = folder::signed_field(size, ns, 0, 6 + v);
     let initial = folder::signed_field(6, vs, v, 2);
-    equal(concrete, initial)
+    whole::equal(concrete, initial)
 }
 
 fn root_fits(m: &[u8], g: &[u8]) -> bool

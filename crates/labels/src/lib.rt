@@ -17,12 +17,6 @@ ghost use Rattle.rounds.specs.Rounds.{fill};
 ghost use Rattle.labels.specs.Agree.{agreesAt};
 ghost use Rattle.labels.specs.Values.{sumFits, ValueReady};
 
-fn variable_count(m: &[u8]) -> usize
-    ensures { λ r. ⌜ r ≡ variableCount (now (m .entry)) ⌝ }
-{
-    folder::count_of(6, folder::body(m, 1))
-}
-
 // The 2-byte field f of node n.
 fn node_field(nb: &[u8], vars: usize, n: usize, f: usize) -> usize
     requires { ⌜ (vars ≤ mostVariables) × (n ≤ 65536) × (f ≤ 65536) ⌝ }
@@ -79,7 +73,7 @@ pub fn a1(m: &[u8], g: &[u8], n: usize) -> bool
     requires { ⌜ (variableCount (now m) ≤ mostVariables) × (n ≤ 65536) ⌝ }
     ensures { λ r. ⌜ r ≡ A1 (modelOf (now (m .entry))) (simulationOf (modelOf (now (m .entry))) (now (g .entry))) n ⌝ }
 {
-    let vars = variable_count(m);
+    let vars = model::variable_count(m);
     let nb = folder::body(g, 0);
     let t = node_field(nb, vars, n, 5);
     first_apart(nb, vars, t, t, n, 6, n) == vars
@@ -90,7 +84,7 @@ pub fn c3(m: &[u8], g: &[u8], n: usize) -> bool
     requires { ⌜ (variableCount (now m) ≤ mostVariables) × (n ≤ 65536) ⌝ }
     ensures { λ r. ⌜ r ≡ C3 (modelOf (now (m .entry))) (simulationOf (modelOf (now (m .entry))) (now (g .entry))) n ⌝ }
 {
-    let vars = variable_count(m);
+    let vars = model::variable_count(m);
     let nb = folder::body(g, 0);
     let k = node_field(nb, vars, n, 1);
     let nodes = folder::count_of(12 + 4 * vars, nb);
@@ -102,7 +96,7 @@ pub fn c1(m: &[u8], g: &[u8], n: usize) -> bool
     requires { ⌜ (variableCount (now m) ≤ mostVariables) × (n ≤ 65536) ⌝ }
     ensures { λ r. ⌜ r ≡ C1 (modelOf (now (m .entry))) (simulationOf (modelOf (now (m .entry))) (now (g .entry))) n ⌝ }
 {
-    let vars = variable_count(m);
+    let vars = model::variable_count(m);
     let nb = folder::body(g, 0);
     if node_field(nb, vars, n, 0) == 2 {
         let k = node_field(nb, vars, n, 1);
@@ -118,7 +112,7 @@ pub fn c2(m: &[u8], g: &[u8], n: usize) -> bool
     requires { ⌜ (variableCount (now m) ≤ mostVariables) × (n ≤ 65536) ⌝ }
     ensures { λ r. ⌜ r ≡ C2 (modelOf (now (m .entry))) (simulationOf (modelOf (now (m .entry))) (now (g .entry))) n ⌝ }
 {
-    let vars = variable_count(m);
+    let vars = model::variable_count(m);
     let nb = folder::body(g, 0);
     if node_field(nb, vars, n, 0) == 2 {
         let k = node_field(nb, vars, n, 1);
@@ -193,7 +187,7 @@ pub fn value_fits(
     requires { ⌜ ValueReady (now m) (now g) (now values) (now weights) (now firsts) n at ⌝ }
     ensures { λ r. ⌜ r ≡ valueFits (modelOf (now (m .entry))) (simulationOf (modelOf (now (m .entry))) (now (g .entry))) (λ k. getD (now (values .entry)) k 0) n ⌝ }
 {
-    let vars = variable_count(m);
+    let vars = model::variable_count(m);
     let nb = folder::body(g, 0);
     let kind = node_field(nb, vars, n, 0);
     let cover = node_field(nb, vars, n, 1);
@@ -227,5 +221,9 @@ pub fn fill_values(m: &[u8], g: &[u8], values: &mut [u32])
     requires { ⌜ (nodeCount (modelOf (now m)) (now g) ≤ mostNodes) × (nodeCount (modelOf (now m)) (now g) ≤ length (now values)) ⌝ }
     ensures { λ _. ⌜ now (values .exit) ≡ fill (nodeCount (modelOf (now (m .entry))) (now (g .entry))) (simulationOf (modelOf (now (m .entry))) (now (g .entry)) .value) (now (values .entry)) ⌝ }
 {
-    fill_fields(12 + 4 * variable_count(m), folder::body(g, 0), values);
+    fill_fields(
+        12 + 4 * model::variable_count(m),
+        folder::body(g, 0),
+        values,
+    );
 }

@@ -7,16 +7,11 @@ use graph::Summary;
 ghost use mathlib.Core.Path.{_≡_};
 ghost use Prim.Native.Nat.{_+_};
 ghost use Rattle.folder.specs.Pick.{pick};
-ghost use Rattle.folder.specs.Table.{outcome};
-ghost use Rattle.model.specs.Model.{modelOf};
 ghost use Rattle.model.specs.Table.{modelOutcome};
 ghost use Rattle.model.specs.View.{viewStart, viewPart};
 ghost use Rattle.model.specs.Step.{stepOutcome, stepRow};
-ghost use Rattle.model.specs.Valid as Models;
-ghost use Rattle.graph.specs.Simulation.{simulationOf};
-ghost use Rattle.graph.specs.Table.{graphRows, graphOutcome, graphAnswer, summary};
+ghost use Rattle.graph.specs.Table.{graphOutcome, graphAnswer};
 ghost use Rattle.graph.specs.Figures.{figureOutcome, firstRow, secondRow, figurePart, figureInFirst};
-ghost use Rattle.graph.specs.Valid.{Valid};
 
 // The model check: rows 1 to 11.
 pub fn model_check(model: &[u8]) -> Outcome
@@ -34,18 +29,6 @@ pub fn record_part(model: &[u8], e: usize, i: usize) -> &[u8]
     model::record_part(model, e, i)
 }
 
-// Rows 12 to 25 of a graph of an accepted model.
-fn graph_rows(m: &[u8], g: &[u8]) -> Outcome
-    requires { ⌜ Models.Valid (now m) ⌝ }
-    ensures { λ r. ⌜ r ≡ outcome (graphRows (modelOf (now (m .entry))) (now (g .entry))) ⌝ }
-{
-    let o = graph::check_rows(m, g);
-    match o {
-        Outcome::Refused(f) => Outcome::Refused(f),
-        Outcome::Accepted => nodes::check_nodes(m, g),
-    }
-}
-
 // Rows 1 to 25.
 fn graph_outcome(m: &[u8], g: &[u8]) -> Outcome
     ensures { λ r. ⌜ r ≡ graphOutcome (now (m .entry)) (now (g .entry)) ⌝ }
@@ -53,35 +36,8 @@ fn graph_outcome(m: &[u8], g: &[u8]) -> Outcome
     let o = model::check_model(m);
     match o {
         Outcome::Refused(f) => Outcome::Refused(f),
-        Outcome::Accepted => graph_rows(m, g),
+        Outcome::Accepted => nodes::check_graph(m, g),
     }
-}
-
-// What an accepted graph has.
-fn summary_of(m: &[u8], g: &[u8]) -> Summary
-    requires { ⌜ Valid (now m) (now g) ⌝ }
-    ensures { λ r. ⌜ r ≡ summary (simulationOf (modelOf (now (m .entry))) (now (g .entry))) ⌝ }
-{
-    let waiting = graph::kind_count(m, g, 0);
-    let expanded = graph::kind_count(m, g, 1);
-    let covered = graph::kind_count(m, g, 2);
-    let target = graph::kind_count(m, g, 3);
-    let root = root_value(m, g);
-    Summary {
-        root,
-        waiting,
-        expanded,
-        covered,
-        target,
-    }
-}
-
-fn root_value(m: &[u8], g: &[u8]) -> usize
-    requires { ⌜ Valid (now m) (now g) ⌝ }
-    ensures { λ r. ⌜ r ≡ simulationOf (modelOf (now (m .entry))) (now (g .entry)) .value 0 ⌝ }
-{
-    let size = graph::node_size(graph::variable_count(m));
-    folder::field4(size, folder::body(g, 0), 0, 2)
 }
 
 // The graph check: the model's rows first, then 12 to 25.
@@ -91,7 +47,7 @@ pub fn graph_check(model: &[u8], graph: &[u8]) -> GraphAnswer
     let o = graph_outcome(model, graph);
     match o {
         Outcome::Refused(f) => GraphAnswer::Refused(f),
-        Outcome::Accepted => GraphAnswer::Accepted(summary_of(model, graph)),
+        Outcome::Accepted => GraphAnswer::Accepted(nodes::summary_of(model, graph)),
     }
 }
 

@@ -1,15 +1,18 @@
-// The graph check's rows 18 to 25: the rules of each node, finished for one node before the next.
+// The graph check of an accepted model: rows 18 to 25 after rows 12 to 17, the rules of each node finished before the
+// next one's; and what an accepted graph has.
 use folder::Outcome;
+use graph::Summary;
 ghost use mathlib.Core.Path.{_≡_};
 ghost use mathlib.Core.Bool.{true};
-ghost use Prim.Native.Nat.{_+_};
+ghost use Prim.Native.Nat.{_+_, _≤_};
 ghost use lib.ListN.{drop};
 ghost use Rattle.folder.specs.Table.{firstBroken, outcome};
 ghost use Rattle.model.specs.Model.{modelOf};
 ghost use Rattle.model.specs.Valid.{Valid};
-ghost use Rattle.graph.specs.Simulation.{simulationOf};
+ghost use Rattle.graph.specs.Limits.{mostNodes};
+ghost use Rattle.graph.specs.Simulation.{nodeCount, simulationOf};
 ghost use Rattle.graph.specs.Rules.{A1};
-ghost use Rattle.graph.specs.Table.{nodeRules, graphRows};
+ghost use Rattle.graph.specs.Table.{nodeRules, graphRows, summary};
 ghost use Rattle.graph.specs.Rows.{RowsRight};
 ghost use Rattle.graph.specs.Walks.{startsAt};
 ghost use Rattle.expand.specs.Node.{NodeOf, FirstsOf};
@@ -156,7 +159,7 @@ fn all_nodes(m: &[u8], g: &[u8], values: &[u32], weights: &[usize], firsts: &[us
 }
 
 // Rows 18 to 25 of a graph that keeps rows 12 to 17.
-pub fn check_nodes(m: &[u8], g: &[u8]) -> Outcome
+fn check_nodes(m: &[u8], g: &[u8]) -> Outcome
     requires { ⌜ Valid (now m) ⌝ }
     requires { ⌜ RowsRight (modelOf (now m)) (now g) ⌝ }
     ensures { λ r. ⌜ r ≡ outcome (drop 6 (graphRows (modelOf (now (m .entry))) (now (g .entry)))) ⌝ }
@@ -172,4 +175,45 @@ pub fn check_nodes(m: &[u8], g: &[u8]) -> Outcome
     );
     rounds::fill_firsts(folder::body(m, 3), &mut firsts);
     all_nodes(m, g, &values, &weights, &firsts)
+}
+
+// Rows 12 to 25 of a graph of an accepted model.
+pub fn check_graph(m: &[u8], g: &[u8]) -> Outcome
+    requires { ⌜ Valid (now m) ⌝ }
+    ensures { λ r. ⌜ r ≡ outcome (graphRows (modelOf (now (m .entry))) (now (g .entry))) ⌝ }
+{
+    let o = graph::check_rows(m, g);
+    match o {
+        Outcome::Refused(f) => Outcome::Refused(f),
+        Outcome::Accepted => check_nodes(m, g),
+    }
+}
+
+// What an accepted graph has.
+pub fn summary_of(m: &[u8], g: &[u8]) -> Summary
+    requires { ⌜ Valid (now m) ⌝ }
+    requires { ⌜ nodeCount (modelOf (now m)) (now g) ≤ mostNodes ⌝ }
+    ensures { λ r. ⌜ r ≡ summary (simulationOf (modelOf (now (m .entry))) (now (g .entry))) ⌝ }
+{
+    let waiting = graph::kind_count(m, g, 0);
+    let expanded = graph::kind_count(m, g, 1);
+    let covered = graph::kind_count(m, g, 2);
+    let target = graph::kind_count(m, g, 3);
+    let root = root_value(m, g);
+    Summary {
+        root,
+        waiting,
+        expanded,
+        covered,
+        target,
+    }
+}
+
+fn root_value(m: &[u8], g: &[u8]) -> usize
+    requires { ⌜ Valid (now m) ⌝ }
+    requires { ⌜ nodeCount (modelOf (now m)) (now g) ≤ mostNodes ⌝ }
+    ensures { λ r. ⌜ r ≡ simulationOf (modelOf (now (m .entry))) (now (g .entry)) .value 0 ⌝ }
+{
+    let size = graph::node_size(graph::variable_count(m));
+    folder::field4(size, folder::body(g, 0), 0, 2)
 }

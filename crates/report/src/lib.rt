@@ -2,9 +2,8 @@
 use folder::Refusal;
 use graph::Summary;
 ghost use mathlib.Core.Path.{_≡_};
-ghost use Prim.Native.Nat.{ℕ, _+_, _≤_, _<_};
+ghost use Prim.Native.Nat.{_+_, _≤_};
 ghost use lib.ListN.{length};
-ghost use mathlib.Core.List.{List, [], _++_};
 ghost use Rattle.text.specs.Text.{Holds, written};
 ghost use Rattle.report.specs.Report.{countsLine, rootLine, withinLine, refusedLine};
 

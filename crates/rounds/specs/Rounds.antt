@@ -19,6 +19,7 @@ use Rattle.model.specs.Chances.{mdp}
 use Rattle.graph.specs.Limits.{units, mostNodes}
 use Rattle.graph.specs.Simulation.{Simulation, graph, kindOf, nodeSize, nodeCount, simulationOf}
 use Rattle.graph.specs.Figures.{firstOf, secondOf, inFirst}
+use Rattle.rounds.specs.Edges.{branchesIn}
 
 -- The tables that a round reads: each branch record's weight, and each command's first branch record.
 pub record Tables (M : Model) (weights firsts : List ℕ) : Type 0 where
@@ -33,7 +34,7 @@ abbrev pub weightIn : ℕ → List ℕ → ℕ → ℕ
 weightIn size bs r = field size bs r 0
 
 abbrev pub firstIn : List ℕ → ℕ → ℕ
-firstIn cs c = sum c (λ i _. field 4 cs i 1)
+firstIn cs c = sum c (λ i _. branchesIn cs i)
 
 -- The first n values of f fit 16 bits.
 pub record Light (n : ℕ) (f : ℕ → ℕ) : Type 0 where

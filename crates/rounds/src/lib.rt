@@ -8,7 +8,6 @@ ghost use Rattle.folder.specs.Contents.{field, countOf};
 ghost use Rattle.folder.specs.Pick.{pick};
 ghost use Rattle.folder.specs.Scan.{firstBad};
 ghost use Rattle.folder.specs.declared.Outcome.the-variants.{Accepted};
-ghost use Rattle.model.specs.Layout.{variableCount};
 ghost use Rattle.model.specs.Model.{modelOf};
 ghost use Rattle.graph.specs.Limits.{units};
 ghost use Rattle.graph.specs.Simulation.{simulationOf};
@@ -125,12 +124,6 @@ fn total_of(m: &[u8]) -> usize
     folder::field(4, folder::body(m, 0), 0, 0)
 }
 
-fn variable_count(m: &[u8]) -> usize
-    ensures { λ r. ⌜ r ≡ variableCount (now (m .entry)) ⌝ }
-{
-    folder::count_of(6, folder::body(m, 1))
-}
-
 // Of a graph: the bytes of a node, and how many nodes there are.
 struct Shape {
     size: usize,
@@ -141,7 +134,7 @@ fn shape_of(m: &[u8], g: &[u8]) -> Shape
     requires { ⌜ Valid (now m) (now g) ⌝ }
     ensures { λ r. ⌜ Shaped (now (m .entry)) (now (g .entry)) (r .size) (r .nodes) ⌝ }
 {
-    let size = 12 + 4 * variable_count(m);
+    let size = 12 + 4 * model::variable_count(m);
     let nodes = folder::count_of(size, folder::body(g, 0));
     Shape { size, nodes }
 }
@@ -374,7 +367,11 @@ pub fn run_rounds(m: &[u8], g: &[u8], h: usize, first: &mut [u32], second: &mut 
 {
     let mut weights = [0usize; MOST_RECORDS];
     let mut firsts = [0usize; MOST_COMMANDS];
-    fill_weights(2 + 2 * variable_count(m), folder::body(m, 4), &mut weights);
+    fill_weights(
+        2 + 2 * model::variable_count(m),
+        folder::body(m, 4),
+        &mut weights,
+    );
     fill_firsts(folder::body(m, 3), &mut firsts);
     turns(m, g, &weights, &firsts, h, first, second);
 }

@@ -5,7 +5,7 @@ use Rattle.labels.proofs.a1.Tie as tie
 
 returns : tie.Need-returns
 returns c =
-    a1-is (record { variables = c .before .before .before .variable-count .ensures; nodes = c .before .before .body .ensures }) _
+    a1-is (record { variables = c .before .before .before .variable-count .ensures .0; nodes = c .before .before .body .ensures }) _
     (c .before .node-field .ensures .0) (c .first-apart .ensures)
 
 pub a1-spec : {M : Type 1} → statement M

@@ -6,7 +6,7 @@ use Rattle.labels.proofs.c3.Tie as tie
 returns : tie.Need-returns
 returns c =
     let b = c .before .before .before in
-    c3-is (record { variables = b .before .before .variable-count .ensures; nodes = b .before .body .ensures }) _
+    c3-is (record { variables = b .before .before .variable-count .ensures .0; nodes = b .before .body .ensures }) _
     (c .before .node-field2 .ensures .0) (b .node-field .ensures .0) (c .node-field3 .ensures .0) (c .before .before .count-of .ensures)
 
 pub c3-spec : {M : Type 1} → statement M

@@ -7,11 +7,11 @@ use Rattle.labels.proofs.fill_values.Tie as tie
 fill-fields-requires : tie.Need-fill-fields-requires
 fill-fields-requires c κs =
     let s = c .before .before .before .before .before .before in
-    (omega arith, omega arith, nodes-within (record { variables = c .before .before .variable-count .ensures; nodes = c .before .body .ensures }) (s .pre .1 .0), nodes-within (record { variables = c .before .before .variable-count .ensures; nodes = c .before .body .ensures }) (s .pre .1 .1))
+    (omega arith, omega arith, nodes-within (record { variables = c .before .before .variable-count .ensures .0; nodes = c .before .body .ensures }) (s .pre .1 .0), nodes-within (record { variables = c .before .before .variable-count .ensures .0; nodes = c .before .body .ensures }) (s .pre .1 .1))
 
 returns : tie.Need-returns
 returns c =
-    values-are (record { variables = c .before .before .before .before .before .variable-count .ensures; nodes = c .before .before .before .before .body .ensures }) _ (c .before .before .fill-fields .ensures)
+    values-are (record { variables = c .before .before .before .before .before .variable-count .ensures .0; nodes = c .before .before .before .before .body .ensures }) _ (c .before .before .fill-fields .ensures)
 
 pub fill-values-spec : {M : Type 1} → statement M
 fill-values-spec =

@@ -10,15 +10,15 @@ use Rattle.rounds.proofs.run_rounds.Statement.{statement}
 use Rattle.rounds.proofs.run_rounds.Tie as tie
 
 mul-fill-weights : tie.Need-mul-fill-weights
-mul-fill-weights c = omega (arith, few-variables (c .before .before .before .before .before .pre .0), c .variable-count .ensures)
+mul-fill-weights c = omega (arith, few-variables (c .before .before .before .before .before .pre .0), c .variable-count .ensures .0)
 
 add-fill-weights : tie.Need-add-fill-weights
-add-fill-weights c = omega (arith, few-variables (c .before .before .before .before .before .pre .0), c .variable-count .ensures)
+add-fill-weights c = omega (arith, few-variables (c .before .before .before .before .before .pre .0), c .variable-count .ensures .0)
 
 fill-weights-requires : tie.Need-fill-weights-requires
 fill-weights-requires c κs =
     let s = c .before .before .before .before .before .before .before in
-    let v = c .before .before .variable-count .ensures in
+    let v = c .before .before .variable-count .ensures .0 in
     let n = record-count _ (ap branchSize v) (c .before .body .ensures) in
     omega (arith, few-variables (s .pre .0), v, n, few-records (s .pre .0))
 
@@ -33,7 +33,7 @@ turns-requires c κs =
     let s = c .before .before .before .before .before .before .before .before .before .before .before .before .before .before .before .before .before in
     let w = c .before .before .before .before .before .before .before .before .before .fill-weights .ensures in
     let t =
-    tables-of (now (s .args .m)) (ap branchSize (c .before .before .before .before .before .before .before .before .before .before .before .before .variable-count .ensures)) (c .before .before .before .before .before .before .before .before .before .before .before .body .ensures) (c .before .before .before .before .before .before .before .body2 .ensures) _ _ (w .0) (w .1) (c .before .before .before .before .before .fill-firsts .ensures)
+    tables-of (now (s .args .m)) (ap branchSize (c .before .before .before .before .before .before .before .before .before .before .before .before .variable-count .ensures .0)) (c .before .before .before .before .before .before .before .before .before .before .before .body .ensures) (c .before .before .before .before .before .before .before .body2 .ensures) _ _ (w .0) (w .1) (c .before .before .before .before .before .fill-firsts .ensures)
     (few-records (s .pre .0)) (few-commands (s .pre .0))
     in
     (s .pre .0, (t, s .pre .1))

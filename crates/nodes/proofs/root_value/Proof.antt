@@ -3,8 +3,8 @@ use denote.Ref.{now}
 use borrow.Author.Needs.{needs}
 use Rattle.folder.specs.Contents.{field4}
 use Rattle.graph.specs.Simulation.{nodeSize}
-use Rattle.laguipy.proofs.root_value.Statement.{statement}
-use Rattle.laguipy.proofs.root_value.Tie as tie
+use Rattle.nodes.proofs.root_value.Statement.{statement}
+use Rattle.nodes.proofs.root_value.Tie as tie
 
 returns : tie.Need-returns
 returns c =

@@ -2,8 +2,8 @@ use mathlib.Core.Path.{_≡_, sym, ap, _∙_}
 use denote.Ref.{now}
 use borrow.Author.Needs.{needs}
 use Rattle.graph.specs.declared.Summary.{Summary}
-use Rattle.laguipy.proofs.summary_of.Statement.{statement}
-use Rattle.laguipy.proofs.summary_of.Tie as tie
+use Rattle.nodes.proofs.summary_of.Statement.{statement}
+use Rattle.nodes.proofs.summary_of.Tie as tie
 
 returns : tie.Need-returns
 returns c = λ t. record {

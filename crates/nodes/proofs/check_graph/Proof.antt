@@ -3,8 +3,8 @@ use denote.Ref.{now}
 use borrow.Author.Needs.{needs}
 use Rattle.model.specs.Model.{modelOf}
 use Rattle.graph.proofs.RowLaws.{rows-right, rows-then, rows-refused}
-use Rattle.laguipy.proofs.graph_rows.Statement.{statement}
-use Rattle.laguipy.proofs.graph_rows.Tie as tie
+use Rattle.nodes.proofs.check_graph.Statement.{statement}
+use Rattle.nodes.proofs.check_graph.Tie as tie
 
 check-nodes-requires : tie.Need-check-nodes-requires
 check-nodes-requires c κs = (c .before .before .before .before .before .pre, rows-right (modelOf (now (c .before .before .before .before .before .args .m))) (now (c .before .before .before .before .before .args .g)) .0 (sym (c .before .before .check-rows .ensures) ∙ c .enum-told .given .1))
@@ -15,5 +15,5 @@ returns c = sym (rows-refused (modelOf (now (c .before .before .before .before .
 returns-2 : tie.Need-returns-2
 returns-2 c = c .check-nodes .ensures ∙ sym (rows-then (modelOf (now (c .before .before .before .before .before .before .args .m))) (now (c .before .before .before .before .before .before .args .g)) (sym (c .before .before .before .check-rows .ensures) ∙ c .before .enum-told .given .1))
 
-pub graph-rows-spec : {M : Type 1} → statement M
-graph-rows-spec = tie.close (tie.spec (λ c κs. search needs) (λ c. search needs) (λ c. search needs) check-nodes-requires returns returns-2)
+pub check-graph-spec : {M : Type 1} → statement M
+check-graph-spec = tie.close (tie.spec (λ c κs. search needs) (λ c. search needs) (λ c. search needs) check-nodes-requires returns returns-2)
