@@ -2,14 +2,15 @@
 -- Assumes nothing.
 use Prim.Native.Nat.{ℕ, _<_}
 use mathlib.Core.Path.{_≡_, refl, sym, ap, _∙_}
-use mathlib.Core.List.{List, _++_}
+use mathlib.Core.List.{List}
 use native.Mathlib.Omega.{arith}
 use borrow.Author.Tests.{not-true}
-use lib.ListN.{getD, drop}
+use lib.ListN.{getD}
 use lib.IntN.{ℤ, pos}
-use Rattle.folder.specs.Tab.{tab}
+use Rattle.folder.specs.Tab.{fill}
 use Rattle.folder.proofs.Decides.{unless}
 use Rattle.whole.specs.Order.{eqZ}
+use Rattle.folder.proofs.FillLaws.{getD-filled}
 use Rattle.expressions.specs.Entries.{Entries, numberForm, truthForm, isNumber}
 use Rattle.expressions.specs.Levels.{numberStep, truthStep, numberAt, truthAt}
 use Rattle.expressions.specs.Parts.{EachN, EachT, Lower}
@@ -29,7 +30,6 @@ use Rattle.expressions.proofs.Related.{number-step, truth-step}
 use Rattle.evaluate.specs.Bounded.{Small, Bounded}
 use Rattle.evaluate.specs.Formed.{Ready}
 use Rattle.evaluate.specs.Settled.{asNumber, flagOf, contentOf, numberFrom, truthFrom, entryReading, flagAt, contentAt, Settled}
-use Rattle.evaluate.proofs.Fill.{fill-at}
 use Rattle.evaluate.proofs.Readable.{bounded}
 
 -- ---- a reading and what the rows have for it
@@ -60,11 +60,11 @@ module _ (x : Entries) (look : ℕ → Number) where
     truth-there e l i = rw (settled .flags e l, settled .contents e l, reads-truth e i) (from-truth (readTruth x look e))
 
   -- Rows filled as far as n.
-  pub filled : (n : ℕ) (known : List ℕ) (values : List ℤ) {k : List ℕ} {z : List ℤ} → k ≡ tab n (flagAt x look) ++ drop n known → z ≡ tab n (contentAt x look) ++ drop n values
+  pub filled : (n : ℕ) (known : List ℕ) (values : List ℤ) {k : List ℕ} {z : List ℤ} → k ≡ fill n (flagAt x look) known → z ≡ fill n (contentAt x look) values
       → Settled x look n k z
   filled n known values p q = record {
-    flags = λ e l. ap (λ (r : List ℕ). getD r e 0) p ∙ fill-at (flagAt x look) known 0 n e l;
-    contents = λ e l. ap (λ (r : List ℤ). getD r e (pos 0)) q ∙ fill-at (contentAt x look) values (pos 0) n e l;
+    flags = λ e l. ap (λ (r : List ℕ). getD r e 0) p ∙ getD-filled 0 n (flagAt x look) known e l;
+    contents = λ e l. ap (λ (r : List ℤ). getD r e (pos 0)) q ∙ getD-filled (pos 0) n (contentAt x look) values e l;
   }
 
 -- ---- one entry

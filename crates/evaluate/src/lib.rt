@@ -11,7 +11,7 @@ ghost use Rattle.expressions.specs.Entries.{entriesOf};
 ghost use Rattle.expressions.specs.Levels.{numberAt, truthAt};
 ghost use Rattle.expressions.specs.Meaning.{numberIn, truthIn};
 ghost use Rattle.expressions.specs.Operations.{arithZ, relates};
-ghost use Rattle.expressions.specs.Reading.{arithN, chooseN, compareN, notT, andT, orT, joinT, hasBit, lookIn, reading, readNumber, readTruth};
+ghost use Rattle.expressions.specs.Reading.{arithN, chooseN, compareN, notT, andT, orT, joinT, lookIn, reading, readNumber, readTruth};
 ghost use Rattle.expressions.specs.Right.{IsNumber, IsTruth};
 ghost use Rattle.evaluate.specs.Bounded.{Small, Bounded};
 ghost use Rattle.evaluate.specs.Formed.{Ready, Grounded};
@@ -24,13 +24,6 @@ use expressions::Relation;
 use expressions::Truth;
 use expressions::TruthForm;
 
-// Variable i is in the set t.
-pub fn has_bit(t: usize, i: usize) -> bool
-    ensures { λ r. ⌜ r ≡ hasBit t i ⌝ }
-{
-    if i < 64 { (t >> i) % 2 == 1 } else { false }
-}
-
 // The value of variable i; past the last, 0.
 pub fn value_at(v: &[i64], i: usize) -> i64
     ensures { λ r. ⌜ r ≡ getD (now (v .entry)) i (pos 0) ⌝ }
@@ -42,7 +35,7 @@ pub fn value_at(v: &[i64], i: usize) -> i64
 pub fn look_in(t: usize, v: &[i64], i: usize) -> Number
     ensures { λ r. ⌜ r ≡ lookIn t (now (v .entry)) i ⌝ }
 {
-    if has_bit(t, i) {
+    if expressions::has_bit(t, i) {
         Number::Known(value_at(v, i))
     } else {
         Number::Unknown

@@ -25,7 +25,7 @@ use Rattle.expressions.specs.declared.Number.the-variants.{Known, Unknown as Op
 use Rattle.expressions.proofs.Interval.{In}
 use Rattle.evaluate.specs.Formed.{Formed, Ready, Grounded}
 use Rattle.evaluate.specs.Settled.{Settled}
-use Rattle.evaluate.proofs.Bits.{no-bit}
+use Rattle.expressions.proofs.Bits.{no-bit}
 use Rattle.evaluate.proofs.Readable.{ready, number-known, number-open}
 use Rattle.evaluate.proofs.Rows.{number-there}
 use Rattle.model.specs.Limits.{mostExpressions}

@@ -213,7 +213,7 @@ fn variable_follows(
     let e = folder::field(2 + 2 * vars, bs, r, 1 + v);
     let concrete = folder::signed_field(size, nb, s, 6 + v);
     let label = folder::signed_field(size, nb, s, 6 + vars + v);
-    let tracked = evaluate::has_bit(folder::field(size, nb, s, 5), v);
+    let tracked = expressions::has_bit(folder::field(size, nb, s, 5), v);
     whole::equal(concrete, evaluate::value_at(state, e))
         & (!tracked | reads_at(known, values, e, label))
 }

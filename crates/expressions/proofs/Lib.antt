@@ -7,3 +7,4 @@ pub mod Forms
 pub mod Levels
 pub mod Whole
 pub mod Small
+pub mod Bits

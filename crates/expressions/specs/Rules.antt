@@ -1,9 +1,8 @@
 -- Document 01's table, rows 5 and 6: what is asked of each expression.
 -- Assumes nothing.
 use Prim.Native.Nat.{ℕ, suc, max}
-use mathlib.Core.Bool.{Bool, true, false, _&&_, _||_}
+use mathlib.Core.Bool.{Bool, false, _&&_, _||_}
 use lib.Dec.{ltb, leb, eqb}
-use lib.IntN.{ℤ}
 use Rattle.expressions.specs.Entries.{Entries, numberForm, truthForm, isNumber, isTruth}
 use Rattle.expressions.specs.Levels.{Interpretation, number, truth}
 use Rattle.expressions.specs.Ranges.{rangeOf, inside, limits}

@@ -2,6 +2,7 @@
 ghost use mathlib.Core.Path.{_≡_};
 ghost use Prim.Native.Nat.{_<_, _≤_};
 ghost use Rattle.expressions.specs.Entries.{entriesOf, numberFormOf, truthFormOf, numberForm, truthForm, isNumber, isTruth};
+ghost use Rattle.expressions.specs.Reading.{hasBit};
 ghost use Rattle.expressions.specs.Small.{SmallN, SmallT};
 
 pub enum Arith {
@@ -138,4 +139,11 @@ pub fn is_truth(x: &[u8], e: usize) -> bool
 {
     let op = folder::field(8, x, e, 0);
     (e < folder::count_of(8, x)) & ((8 <= op) & (op <= 14))
+}
+
+// Variable i is in the set t.
+pub fn has_bit(t: usize, i: usize) -> bool
+    ensures { λ r. ⌜ r ≡ hasBit t i ⌝ }
+{
+    if i < 64 { (t >> i) % 2 == 1 } else { false }
 }

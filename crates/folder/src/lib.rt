@@ -1,7 +1,7 @@
 // Folders: little-endian fields, the table of contents, bodies and records. Reads are total: past the end a byte is 0.
 ghost use mathlib.Core.Path.{_≡_};
-ghost use Prim.Native.Nat.{ℕ, _+_, _*_, _<_, _≤_, _^_};
-ghost use lib.ListN.{getD, length};
+ghost use Prim.Native.Nat.{_+_, _*_, _<_, _≤_, _^_};
+ghost use lib.ListN.{getD};
 ghost use Rattle.folder.specs.Fields.{u16, u32, signed16};
 ghost use Rattle.folder.specs.Contents.{startOf, lengthOf, dueStart, entryOk, body, countOf, field, field4};
 ghost use Rattle.folder.specs.Scan.{firstBad};

@@ -1,11 +1,11 @@
 -- The graph check accepts if and only if the folder and model rules hold, the graph starts at the initial state, and
 -- keeps A1 to C3 and the value rule.
 -- Assumes nothing.
-use Prim.Native.Nat.{ℕ, zero, suc, _+_, _*_, _/_, _%_, _^_, _<_, _≤_}
-use mathlib.Core.Path.{_≡_, refl, sym, ap, _∙_, subst}
+use Prim.Native.Nat.{ℕ, _+_, _*_, _/_, _%_, _^_, _<_, _≤_}
+use mathlib.Core.Path.{_≡_, refl, ap}
 use mathlib.Core.Logic.{_↔_, _≢_}
 use mathlib.Core.Bool.{Bool, true, false, false≢true}
-use mathlib.Core.List.{List, [], _∷_, _++_}
+use mathlib.Core.List.{List, [], _++_}
 use native.Mathlib.Omega.{arith}
 use lib.Dec.{eqb}
 use lib.ListN.{length}
@@ -21,7 +21,6 @@ use Rattle.folder.proofs.ContentsLaws.{entry-decided as contents-decided}
 use Rattle.folder.proofs.TableLaws.{refused-broken, row-asks, single-asks, _row-and_, no-rows, put-so, tables-ask, accepted-asks}
 use Rattle.folder.specs.Table.{allRules, AllHold, Broken}
 use Rattle.folder.specs.declared.Refusal.{Refusal}
-use Rattle.folder.specs.declared.Outcome.{Outcome}
 use Rattle.folder.specs.declared.Outcome.the-variants.{Accepted, Refused}
 use Rattle.expressions.specs.Meaning.{numberIn}
 use Rattle.expressions.specs.Reading.{isKnown, isTrue, isFalse, reads}
@@ -31,7 +30,7 @@ use Rattle.expressions.specs.declared.Truth.{Truth}
 use Rattle.expressions.specs.declared.Truth.the-variants.{True, False, Unknown}
 use Rattle.whole.proofs.Order.{equal-decided}
 use Rattle.model.specs.Model.{Model, modelOf, firstRecord}
-use Rattle.model.specs.Chances.{mdp, initialState}
+use Rattle.model.specs.Chances.{mdp}
 use Rattle.graph.specs.Limits.{leastBytes, mostBytes, mostNodes, units, mostSteps}
 use Rattle.graph.specs.Simulation.{Simulation, bodies, nodeSize, nodeCount, simulationOf, graph}
 use Rattle.graph.specs.Labels.{tracks, concreteState, numberOf, truthOf}

@@ -1,40 +1,32 @@
 -- Demand 3 holds of every two folders' bytes.
 -- Assumes nothing.
-use Prim.Native.Nat.{ℕ, zero, suc, _+_, _<_, _≤_}
-use mathlib.Core.Path.{_≡_, refl, sym, ap, _∙_, subst}
+use Prim.Native.Nat.{ℕ, _<_}
+use mathlib.Core.Path.{_≡_, refl, subst}
 use mathlib.Core.Logic.{_≢_}
-use mathlib.Core.Bool.{Bool, true, false, not, false≢true}
-use mathlib.Core.List.{List, [], _∷_, _++_}
+use mathlib.Core.List.{List, []}
 use native.Mathlib.Omega.{arith}
-use borrow.Author.Tests.{eq-eqb, not-true, eqb-false}
+use borrow.Author.Tests.{eq-eqb}
 use lib.Dec.{eqb}
-use lib.ListN.{getD, length}
-use Rattle.mdp.specs.Sums.{sum}
 use Rattle.mdp.specs.Kinds.{Kind}
 use Rattle.mdp.specs.Graph.{figure}
-use Rattle.mdp.specs.Demand.{Demand3, RootBounds, FigureFits}
+use Rattle.mdp.specs.Demand.{Demand3}
 use Rattle.mdp.proofs.SumLaws.{sum-more}
 use Rattle.mdp.proofs.Demand.{demand}
 use Rattle.folder.specs.Pick.{pick}
-use Rattle.folder.specs.Table.{AllHold}
 use Rattle.folder.specs.declared.Outcome.{Outcome}
 use Rattle.folder.specs.declared.Outcome.the-variants as O
-use Rattle.folder.proofs.Decides.{Decides, passes}
 use Rattle.folder.proofs.TabLaws.{length-tab, getD-tab}
-use Rattle.folder.proofs.TableLaws.{accepted-holds}
 use Rattle.model.specs.Model.{Model, modelOf}
-use Rattle.model.specs.Table.{modelRows}
 use Rattle.model.specs.Chances.{mdp, initialState}
 use Rattle.model.proofs.Chances.{fair}
 use Rattle.graph.specs.Limits.{units}
 use Rattle.graph.specs.Simulation.{Simulation, simulationOf, graph}
 use Rattle.graph.specs.Labels.{Contains, concreteState}
-use Rattle.graph.specs.Table.{graphRows, graphOutcome, kindCount, summary, answerOf, graphAnswer}
-use Rattle.graph.specs.Figures.{figures, figureRows, figureOutcome, partOf, figurePart}
+use Rattle.graph.specs.Table.{graphOutcome, kindCount, summary, answerOf, graphAnswer}
+use Rattle.graph.specs.Figures.{figures, figureOutcome, figurePart}
 use Rattle.graph.specs.Valid.{Valid}
 use Rattle.graph.specs.Demand.{Bounds, PartFits, Demand}
 use Rattle.graph.specs.declared.Summary.{Summary}
-use Rattle.graph.specs.declared.GraphAnswer.{GraphAnswer}
 use Rattle.graph.specs.declared.GraphAnswer.the-variants.{Accepted, Refused}
 use Rattle.graph.proofs.Decided.{accepted-valid, figure-valid}
 use Rattle.graph.proofs.Labelled.{kind-is, labelled, valued, own, root-contains}

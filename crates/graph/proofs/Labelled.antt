@@ -1,30 +1,26 @@
 -- What the rules give of a graph's labels and values, in the words of the theory of simulation graphs.
 -- Assumes nothing.
-use Prim.Native.Nat.{ℕ, zero, suc, _+_, _*_, _/_, _%_, _^_, _<_, _≤_}
+use Prim.Native.Nat.{ℕ, zero, suc, _+_, _*_, _/_, _^_, _<_, _≤_}
 use mathlib.Core.Path.{_≡_, refl, sym, ap, _∙_, subst}
 use mathlib.Core.Logic.{_≢_}
 use mathlib.Core.Bool.{Bool, true, false, false≢true}
 use mathlib.Core.List.{List}
-use native.Mathlib.Nat.{pow-le-pow-right, div-eq-of-lt, div-lt-iff-lt-mul, one-le-pow, le-trans, not-suc-le-zero, le-of-suc-le-suc}
+use native.Mathlib.Nat.{pow-le-pow-right, div-eq-of-lt, div-lt-iff-lt-mul, one-le-pow, not-suc-le-zero, le-of-suc-le-suc}
 use native.Mathlib.Decide.{decLt}
 use native.Mathlib.Omega.{arith}
 use lib.ListN.{length, getD}
 use lib.IntN.{ℤ, pos}
 use Rattle.mdp.specs.Kinds.{Kind}
-use Rattle.mdp.specs.Mdp.{Mdp}
-use Rattle.mdp.specs.Graph.{Graph, Labelled, Valued}
+use Rattle.mdp.specs.Graph.{Labelled, Valued}
 use Rattle.folder.specs.Pick.{pick}
 use Rattle.folder.specs.Tab.{tab, passing}
-use Rattle.folder.proofs.TabLaws.{length-tab, getD-tab, PassAt, passing-at, Has, passing-has}
+use Rattle.folder.proofs.TabLaws.{length-tab, getD-tab, passing-at, passing-has}
 use Rattle.expressions.specs.Meaning.{State, valueOf, numberIn, truthIn}
 use Rattle.expressions.specs.Reading.{hasBit, lookIn, isTrue, knownTruth}
-use Rattle.expressions.specs.declared.Number.{Number}
 use Rattle.expressions.specs.declared.Number.the-variants.{Known, Unknown as Open}
-use Rattle.expressions.specs.declared.Truth.{Truth}
-use Rattle.expressions.specs.declared.Truth.the-variants.{True, False, Unknown}
 use Rattle.expressions.proofs.Sound.{Says, SaysT, number-sound, truth-sound, known-is, true-is, false-is, known-truth}
 use Rattle.model.specs.Model.{Model, firstRecord}
-use Rattle.model.specs.Chances.{mdp, next, initialState, InRange}
+use Rattle.model.specs.Chances.{mdp, next, initialState}
 use Rattle.model.specs.Valid.{ModelRight}
 use Rattle.model.proofs.Chances.{next-in-range}
 use Rattle.graph.specs.Limits.{units}

@@ -3,7 +3,6 @@
 use Prim.Native.Nat.{ℕ, _<_}
 use mathlib.Core.Path.{_≡_}
 use mathlib.Core.Bool.{Bool, true}
-use lib.IntN.{ℤ}
 use Rattle.folder.specs.Tab.{tab}
 use Rattle.expressions.specs.Meaning.{State, valueOf}
 use Rattle.expressions.specs.Reading.{hasBit, lookIn, readNumber, readTruth}

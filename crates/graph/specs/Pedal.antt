@@ -2,7 +2,7 @@
 -- Assumes nothing.
 use Prim.Native.Nat.{ℕ}
 use mathlib.Core.List.{List, [], _∷_, _++_}
-use Rattle.model.specs.Pedal.{two, four, fields, folderOf, joined}
+use Rattle.model.specs.Pedal.{four, fields, folderOf, joined}
 
 -- A node's record: kind, cover, value, edge count, tracked set, concrete values and label values.
 abbrev pub node : ℕ → ℕ → ℕ → ℕ → ℕ → List ℕ → List ℕ → List ℕ

@@ -5,7 +5,7 @@ use mathlib.Core.List.{List}
 use mathlib.Core.Bool.{Bool, _&&_, not}
 use lib.ListN.{length}
 use lib.Dec.{ltb, leb, eqb}
-use lib.IntN.{ℤ, pos}
+use lib.IntN.{pos}
 use Rattle.mdp.specs.Graph.{along}
 use Rattle.folder.specs.Pick.{pick, implies}
 use Rattle.folder.specs.Scan.{all}

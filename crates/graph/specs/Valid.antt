@@ -3,13 +3,12 @@
 use Prim.Native.Nat.{ℕ, _+_, _*_, _/_, _%_, _^_, _<_, _≤_}
 use mathlib.Core.Path.{_≡_}
 use mathlib.Core.Logic.{_≢_}
-use mathlib.Core.Bool.{Bool, true, false}
+use mathlib.Core.Bool.{true, false}
 use mathlib.Core.List.{List}
 use lib.ListN.{length}
-use lib.IntN.{ℤ, pos}
+use lib.IntN.{pos}
 use lib.Signed.{_≤ℤ_}
-use Rattle.mdp.specs.Kinds.{Kind}
-use Rattle.mdp.specs.Graph.{Valued, along}
+use Rattle.mdp.specs.Graph.{along}
 use Rattle.folder.specs.Tab.{tab, passing}
 use Rattle.folder.specs.Contents.{body, EntryRight as ContentsRight}
 use Rattle.expressions.specs.Meaning.{numberIn}
@@ -19,7 +18,7 @@ use Rattle.model.specs.Model.{Model, modelOf, firstRecord}
 use Rattle.model.specs.Chances.{mdp, initialState}
 use Rattle.model.specs.Valid as Models
 use Rattle.graph.specs.Limits.{leastBytes, mostBytes, mostNodes, units, mostSteps}
-use Rattle.graph.specs.Simulation.{Simulation, bodies, nodeSize, nodeCount, simulationOf, graph, kindOf}
+use Rattle.graph.specs.Simulation.{Simulation, bodies, nodeSize, nodeCount, simulationOf, graph}
 use Rattle.graph.specs.Labels.{tracks, concreteState, numberOf, truthOf}
 use Rattle.graph.specs.Rules.{enabledIn}
 

@@ -13,7 +13,6 @@ ghost use Rattle.folder.specs.Scan.{firstBad};
 ghost use Rattle.folder.specs.Table.{outcome};
 ghost use Rattle.folder.specs.Contents.{body};
 ghost use Rattle.whole.specs.Order.{eqZ};
-ghost use Rattle.expressions.specs.Reading.{hasBit};
 ghost use Rattle.model.specs.Layout.{variableCount};
 ghost use Rattle.model.specs.Model.{modelOf};
 ghost use Rattle.model.specs.Rules.{between};
@@ -67,14 +66,6 @@ fn between(low: i64, high: i64, x: i64) -> bool
     (low <= x) & (x <= high)
 }
 
-// The set t has bit i.
-fn has_bit(t: usize, i: usize) -> bool
-    requires { ⌜ i < 64 ⌝ }
-    ensures { λ r. ⌜ r ≡ hasBit t i ⌝ }
-{
-    (t >> i) % 2 == 1
-}
-
 fn bytes_fit(g: &[u8]) -> bool
     ensures { λ r. ⌜ r ≡ bytesFit (now (g .entry)) ⌝ }
 {
@@ -120,7 +111,7 @@ fn value_fits(variables: usize, vs: &[u8], ns: &[u8], n: usize, v: usize) -> boo
     let size = node_size(variables);
     let low = folder::signed_field(6, vs, v, 0);
     let high = folder::signed_field(6, vs, v, 1);
-    let tracked = has_bit(folder::field(size, ns, n, 5), v);
+    let tracked = expressions::has_bit(folder::field(size, ns, n, 5), v);
     let concrete = folder::signed_field(size, ns, n, 6 + v);
     let label = folder::signed_field(size, ns, n, 6 + variables + v);
     between(low, high, concrete) & implies(!tracked, whole::equal(label, 0))

@@ -20,7 +20,7 @@ use Rattle.graph.specs.Limits.{mostBytes, units}
 use Rattle.graph.specs.Simulation.{Simulation, edgeAt, nodeSize, nodeCount, simulationOf, graph}
 use Rattle.graph.specs.Rules.{valueFits}
 use Rattle.rounds.specs.Edges.{sumAt, after, EdgesReady, sumOf}
-use Rattle.rounds.specs.Rounds.{fill}
+use Rattle.folder.specs.Tab.{fill}
 use Rattle.rounds.proofs.ModelLaws.{after-is, edges-ready, sum-is}
 use Rattle.labels.specs.Values.{sumFits, ValueReady}
 use Rattle.labels.proofs.Tests.{all-same}

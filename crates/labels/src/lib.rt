@@ -13,7 +13,7 @@ ghost use Rattle.graph.specs.Limits.{mostBytes, mostNodes};
 ghost use Rattle.graph.specs.Simulation.{nodeSize, nodeCount, simulationOf};
 ghost use Rattle.graph.specs.Rules.{A1, C3, C1, C2, valueFits};
 ghost use Rattle.rounds.specs.Edges.{EdgesReady};
-ghost use Rattle.rounds.specs.Rounds.{fill};
+ghost use Rattle.folder.specs.Tab.{fill};
 ghost use Rattle.labels.specs.Agree.{agreesAt};
 ghost use Rattle.labels.specs.Values.{sumFits, ValueReady};
 
@@ -47,8 +47,8 @@ fn agrees_at(
     requires { ⌜ (vars ≤ mostVariables) × (n ≤ 65536) × (f ≤ 22) × (k ≤ 65536) × (v < vars) ⌝ }
     ensures { λ r. ⌜ r ≡ agreesAt vars (now (nb .entry)) t u n f k v ⌝ }
 {
-    !evaluate::has_bit(t, v)
-        | (evaluate::has_bit(u, v) & same_field(nb, vars, n, f + v, k, 6 + vars + v))
+    !expressions::has_bit(t, v)
+        | (expressions::has_bit(u, v) & same_field(nb, vars, n, f + v, k, 6 + vars + v))
 }
 
 // The first variable of the set t that is not in the set u, or whose value in node n, from field f on, is not the one in

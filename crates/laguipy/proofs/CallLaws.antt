@@ -4,7 +4,7 @@ use Prim.Native.Nat.{ℕ}
 use mathlib.Core.Path.{_≡_, refl, sym, ap, _∙_}
 use mathlib.Core.List.{List, _++_, append-assoc}
 use Rattle.folder.specs.Pick.{pick}
-use Rattle.folder.specs.Table.{Row, outcome}
+use Rattle.folder.specs.Table.{outcome}
 use Rattle.folder.specs.declared.Refusal.{Refusal}
 use Rattle.folder.specs.declared.Outcome.{Outcome}
 use Rattle.folder.specs.declared.Outcome.the-variants.{Accepted, Refused}

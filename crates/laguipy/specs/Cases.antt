@@ -1,7 +1,7 @@
 -- Document 01's cases for proof (◆), as one list: what a call answers, and what it is due to answer.
 -- Assumes nothing.
 use Prim.Native.Nat.{ℕ}
-use mathlib.Core.List.{List, [], _∷_, _++_}
+use mathlib.Core.List.{List, [], _∷_}
 use lib.ListN.{set, replicate}
 use lib.IntN.{ℤ, pos}
 use Rattle.folder.specs.Table.{refusal, refused}
@@ -12,7 +12,6 @@ use Rattle.model.specs.Step.{stepOutcome, stepRow}
 use Rattle.graph.specs.Table.{graphAnswer}
 use Rattle.graph.specs.Figures.{figureOutcome, figurePart}
 use Rattle.graph.specs.Pedal.{node, graphFolder, pedalNodes, pedalEdges, pedalGraph}
-use Rattle.graph.specs.declared.Summary.{Summary}
 use Rattle.graph.specs.declared.GraphAnswer.{GraphAnswer}
 use Rattle.graph.specs.declared.GraphAnswer.the-variants.{Accepted, Refused}
 

@@ -1,10 +1,10 @@
 -- P is the best: no strategy's Q is above it, and some strategy's is equal to it.
 -- Assumes nothing.
 use Prim.Native.Nat.{ℕ, zero, suc, _+_, _*_, _^_, _-_, _≤_, _<_}
-use native.Mathlib.Nat.{le-step, le-refl, le-trans, pow-suc, pow-zero}
+use native.Mathlib.Nat.{le-refl, le-trans, pow-suc, pow-zero}
 use native.Mathlib.Omega.{arith}
 use mathlib.Core.Path.{_≡_, refl, sym, ap, _∙_, subst}
-use mathlib.Core.Bool.{Bool, true, false, false≢true}
+use mathlib.Core.Bool.{Bool, true, false}
 use Rattle.mdp.specs.Sums.{sum, greatest, if_then_else_}
 use Rattle.mdp.specs.Mdp.{Mdp, Fair, P, Q, weighing, worth, Enabled, History, alone, step, Choice, stop, take, Strategy}
 use Rattle.mdp.proofs.SumLaws.{weighed, greatest-above, greatest-below, Attained, nowhere, at, attained}

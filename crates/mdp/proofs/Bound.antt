@@ -1,16 +1,15 @@
 -- Whatever a graph's nodes hold from round to round, if it obeys the value rule from each round to the next then it bounds P.
 -- Assumes nothing.
-use Prim.Native.Nat.{ℕ, zero, suc, _+_, _*_, _^_, _-_, _/_, _≤_, _<_}
-use native.Mathlib.Nat.{le-refl, le-trans, pow-suc, pow-zero, mul-le-mul, mul-le-mul-left, mul-le-mul-right}
+use Prim.Native.Nat.{ℕ, zero, suc, _*_, _^_, _-_, _≤_, _<_}
+use native.Mathlib.Nat.{le-trans, pow-suc, mul-le-mul, mul-le-mul-left, mul-le-mul-right}
 use native.Mathlib.Omega.{arith}
-use mathlib.Core.Path.{_≡_, refl, sym, ap, _∙_, subst}
-use mathlib.Core.Logic.{_≢_}
+use mathlib.Core.Path.{_≡_, refl, subst}
 use mathlib.Core.Bool.{Bool, true, false}
-use Rattle.mdp.specs.Sums.{sum, greatest, if_then_else_}
-use Rattle.mdp.specs.Mdp.{Mdp, Fair, P, Q, weighing, Strategy, History, alone}
+use Rattle.mdp.specs.Sums.{if_then_else_}
+use Rattle.mdp.specs.Mdp.{Mdp, Fair, P, Q, weighing, Strategy, alone}
 use Rattle.mdp.specs.Kinds.{Kind}
-use Rattle.mdp.specs.Graph.{Graph, along, IsCovered, IsExpanded, Labelled, Valued}
-use Rattle.mdp.proofs.SumLaws.{greatest-above, greatest-below}
+use Rattle.mdp.specs.Graph.{Graph, along, IsExpanded, Labelled, Valued}
+use Rattle.mdp.proofs.SumLaws.{greatest-below}
 use Rattle.mdp.proofs.Cases.{Holds, each-node}
 use Rattle.mdp.proofs.Best.{weighed-fair, P≤, Q≤P}
 

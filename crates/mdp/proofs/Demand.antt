@@ -1,7 +1,6 @@
 -- Demand 3 holds of whatever satisfies the rules.
 -- Assumes nothing.
 use Prim.Native.Nat.{ℕ, _<_}
-use mathlib.Core.Path.{_≡_}
 use Rattle.mdp.specs.Mdp.{Mdp, Fair, alone}
 use Rattle.mdp.specs.Graph.{Graph, Labelled, Valued}
 use Rattle.mdp.specs.Demand.{Demand3}

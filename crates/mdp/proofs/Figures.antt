@@ -1,17 +1,17 @@
 -- The figures.
 -- Assumes nothing.
-use Prim.Native.Nat.{ℕ, zero, suc, _+_, _*_, _^_, _-_, _/_, _≤_, _<_}
+use Prim.Native.Nat.{ℕ, zero, suc, _+_, _*_, _^_, _-_, _≤_, _<_}
 use native.Mathlib.Nat.{le-trans, pow-suc, pow-zero, mul-le-mul-left, mul-le-mul-right, div-mul-le-self, lt-div-mul-add}
 use native.Mathlib.Omega.{arith}
-use mathlib.Core.Path.{_≡_, refl, sym, ap, _∙_, subst}
+use mathlib.Core.Path.{_≡_, refl, sym}
 use mathlib.Core.Logic.{_≢_}
-use mathlib.Core.Bool.{Bool, true, false}
-use Rattle.mdp.specs.Sums.{sum, greatest, if_then_else_}
-use Rattle.mdp.specs.Mdp.{Mdp, Fair, P, Q, weighing, Strategy, History, alone}
+use mathlib.Core.Bool.{true}
+use Rattle.mdp.specs.Sums.{greatest, if_then_else_}
+use Rattle.mdp.specs.Mdp.{Mdp, Fair, P, weighing}
 use Rattle.mdp.specs.Kinds.{Kind}
-use Rattle.mdp.specs.Graph.{Graph, along, IsCovered, IsExpanded, Labelled, Valued, start, again, shared, round, up, figure}
-use Rattle.mdp.proofs.SumLaws.{weighed, greatest-above, greatest-below}
-use Rattle.mdp.proofs.Best.{weighed-fair, P≤, Q≤P, weighing-le-best}
+use Rattle.mdp.specs.Graph.{Graph, along, IsExpanded, Labelled, shared, round, up, figure}
+use Rattle.mdp.proofs.SumLaws.{greatest-above, greatest-below}
+use Rattle.mdp.proofs.Best.{weighed-fair, weighing-le-best}
 use Rattle.mdp.proofs.Cases.{Holds, each-node}
 use Rattle.mdp.proofs.Bound.{Above, above}
 

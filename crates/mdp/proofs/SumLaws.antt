@@ -4,8 +4,8 @@
 --     attained        the greatest is 0, or one of the values
 --     sum-more        a part of the sum
 -- Assumes nothing.
-use Prim.Native.Nat.{ℕ, zero, suc, _+_, _*_, _≤_, _<_, zero-le, max}
-use native.Mathlib.Nat.{le-step, le-refl, le-trans, le-of-suc-le-suc, not-suc-le-zero, mul-le-mul-left, max-le, le-max-left, le-max-right, eq-or-lt-of-le}
+use Prim.Native.Nat.{ℕ, zero, suc, _+_, _*_, _≤_, _<_, max}
+use native.Mathlib.Nat.{le-step, le-refl, le-trans, le-of-suc-le-suc, not-suc-le-zero, mul-le-mul-left, le-max-left, le-max-right, eq-or-lt-of-le}
 use native.Mathlib.Nat.{max-eq-left, max-eq-right}
 use native.Mathlib.Decide.{decLe}
 use native.Mathlib.Omega.{arith}

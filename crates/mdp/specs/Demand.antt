@@ -1,6 +1,6 @@
 -- Demand 3, as a statement about a model and a graph, read as an Mdp and a Graph.
 -- Assumes nothing.
-use Prim.Native.Nat.{ℕ, zero, suc, _+_, _*_, _^_, _≤_, _<_}
+use Prim.Native.Nat.{ℕ, _+_, _*_, _^_, _≤_, _<_}
 use mathlib.Core.Path.{_≡_}
 use mathlib.Core.Logic.{_≢_}
 use Rattle.mdp.specs.Mdp.{Mdp, P, Q, Strategy, alone}

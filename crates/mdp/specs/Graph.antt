@@ -3,7 +3,7 @@
 use Prim.Native.Nat.{ℕ, zero, suc, _+_, _-_, _*_, _/_, _≤_, _<_}
 use mathlib.Core.Path.{_≡_}
 use mathlib.Core.Logic.{_≢_}
-use mathlib.Core.Bool.{Bool, true, false}
+use mathlib.Core.Bool.{true, false}
 use Rattle.mdp.specs.Sums.{sum, greatest}
 use Rattle.mdp.specs.Mdp.{Mdp}
 use Rattle.mdp.specs.Kinds.{Kind}

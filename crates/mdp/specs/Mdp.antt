@@ -2,7 +2,7 @@
 -- Assumes nothing.
 use Prim.Native.Nat.{ℕ, zero, suc, _*_, _^_, _<_}
 use mathlib.Core.Path.{_≡_}
-use mathlib.Core.Bool.{Bool, true, false}
+use mathlib.Core.Bool.{Bool, true}
 use Rattle.mdp.specs.Sums.{sum, greatest, if_then_else_}
 
 -- Document 01, "Models". Commands are numbered from 0, and so are the branches of a command. `total` is D: the chance

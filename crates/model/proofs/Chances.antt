@@ -1,12 +1,12 @@
 -- What the rules give of a model's chances: weights total D, and a step from a state in range is in range.
 -- Assumes nothing.
 use Prim.Native.Nat.{ℕ, _+_, _<_, _≤_}
-use mathlib.Core.Path.{_≡_, refl, sym, ap, _∙_, subst}
+use mathlib.Core.Path.{_≡_}
 use native.Mathlib.Decide.{decLt}
 use native.Mathlib.Omega.{arith}
 use borrow.Author.Tests.{lt-ltb, le-ltb}
 use mathlib.Core.List.{List}
-use lib.ListN.{length, List·getD-eq-default}
+use lib.ListN.{List·getD-eq-default}
 use lib.IntN.{ℤ, pos}
 use Rattle.mdp.specs.Mdp.{Fair}
 use Rattle.mdp.proofs.SumLaws.{sum-more}

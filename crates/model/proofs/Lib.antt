@@ -2,8 +2,8 @@ pub mod Decided
 pub mod Chances
 pub mod Limits
 pub mod SumLoop
-mod LayoutLaws
+pub mod LayoutLaws
 mod BodyLaws
 mod AssignLaws
 mod CheckLaws
-mod ViewLaws
+pub mod ViewLaws

@@ -22,7 +22,7 @@ use Rattle.model.specs.View.{isAccepted, recordThere, viewStart, viewLen
 use Rattle.model.proofs.Decided.{folder-asks}
 
 -- A record of a body lies within the body.
-record-within : (size bytes i : ℕ) → i < bytes / size → size * i + size ≤ bytes
+pub record-within : (size bytes i : ℕ) → i < bytes / size → size * i + size ≤ bytes
 record-within size bytes i l =
     let h : size * suc i ≤ size * (bytes / size) = mul-le-mul-left size l in
     omega (arith, mul-div-le bytes size, mul-suc size i)
@@ -31,7 +31,7 @@ body-short : (m : List ℕ) (e : ℕ) → length (body m e) ≤ lengthOf m e
 unfolding body
 body-short m e = rw length-take (min-le-left _ _)
 
-accepted-is : (o : Outcome) → isAccepted o ≡ true → o ≡ Accepted
+pub accepted-is : (o : Outcome) → isAccepted o ≡ true → o ≡ Accepted
 accepted-is Accepted h = refl
 accepted-is (Refused f) h = absurd (false≢true h)
 

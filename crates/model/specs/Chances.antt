@@ -3,7 +3,6 @@
 use Prim.Native.Nat.{ℕ, _+_, _<_}
 use mathlib.Core.Path.{_≡_}
 use lib.ListN.{length}
-use lib.IntN.{ℤ}
 use lib.Signed.{_≤ℤ_}
 use Rattle.mdp.specs.Mdp.{Mdp}
 use Rattle.folder.specs.Tab.{tab}

@@ -19,7 +19,7 @@ ghost use Rattle.model.specs.View.{isAccepted, recordThere, viewStart, v
 use folder::Outcome;
 
 // A value for each body.
-fn select(
+pub fn select(
     e: usize,
     terms: usize,
     variables: usize,
@@ -405,7 +405,7 @@ pub fn check_model(m: &[u8]) -> Outcome
     }
 }
 
-fn is_accepted(o: Outcome) -> bool
+pub fn is_accepted(o: Outcome) -> bool
     ensures { λ r. ⌜ r ≡ isAccepted o ⌝ }
 {
     match o {

@@ -21,8 +21,9 @@ use Rattle.graph.specs.Rows.{RowsRight}
 use Rattle.graph.specs.Table.{nodeRules}
 use Rattle.graph.specs.Walks.{startsAt}
 use Rattle.graph.proofs.Limits.{few-variables}
-use Rattle.rounds.specs.Rounds.{fill, Tables}
-use Rattle.rounds.proofs.RoundLaws.{getD-filled, getD-kept, length-fill}
+use Rattle.rounds.specs.Rounds.{Tables}
+use Rattle.folder.specs.Tab.{fill}
+use Rattle.folder.proofs.FillLaws.{getD-filled, getD-kept, length-fill}
 use Rattle.labels.specs.Values.{ValueReady}
 use Rattle.expand.specs.Node.{NodeOf, FirstsOf}
 use Rattle.nodes.specs.Ready.{Ready, readingRules}
@@ -89,10 +90,10 @@ module _ (m g : List ℕ) (rows : RowsRight (modelOf m) g) where
     value-there k = ap (λ (r : List ℕ). getD r k 0) e ∙ go (decLt k (nodeCount (modelOf m) g))
       where
         go : Dec (k < nodeCount (modelOf m) g) → getD (fill (nodeCount (modelOf m) g) (simulationOf (modelOf m) g .value) (replicate size 0)) k 0 ≡ simulationOf (modelOf m) g .value k
-        go (yes l) = getD-filled (nodeCount (modelOf m) g) (simulationOf (modelOf m) g .value) (replicate size 0) k l
+        go (yes l) = getD-filled 0 (nodeCount (modelOf m) g) (simulationOf (modelOf m) g .value) (replicate size 0) k l
         go (no h) =
             let l : nodeCount (modelOf m) g ≤ k = omega arith in
-            getD-kept (nodeCount (modelOf m) g) (simulationOf (modelOf m) g .value) (replicate size 0) k l ∙ zeros size k ∙ sym (past-last k l)
+            getD-kept 0 (nodeCount (modelOf m) g) (simulationOf (modelOf m) g .value) (replicate size 0) k l ∙ zeros size k ∙ sym (past-last k l)
 
     pub values-there : (λ (k : ℕ). getD row k 0) ≡ simulationOf (modelOf m) g .value
     values-there = λ t k. value-there k t

@@ -6,15 +6,16 @@ use mathlib.Core.Bool.{Bool, true, false}
 use mathlib.Core.List.{List}
 use native.Mathlib.Omega.{arith}
 use lib.ListN.{length, set, length-set}
-use lib.IntN.{ℤ, pos}
+use lib.IntN.{ℤ}
 use Rattle.folder.specs.Scan.{firstBad}
+use Rattle.folder.proofs.FillLaws.{fill-none, fill-more}
 use Rattle.folder.proofs.ScanLaws.{Scanned, scan-start, scan-next, scan-found}
 use Rattle.expressions.specs.Entries.{entriesOf}
 use Rattle.expressions.specs.Ranges.{boundIn, inside, limits}
 use Rattle.expressions.specs.Rules.{rangeFits}
 use Rattle.expressions.specs.declared.Range.{Range}
 use Rattle.ranges.specs.Settled.{Based, rangeIn, lowEnds, highEnds, Ranged}
-use Rattle.ranges.proofs.RowLaws.{tab-none, tab-more, settled, inside-below}
+use Rattle.ranges.proofs.RowLaws.{settled, inside-below}
 
 -- The rows after e places; lows₀ and highs₀ are what they held before the loop.
 pub record Filling (x y : List ℕ) (lows₀ highs₀ : List ℤ) (n : ℕ) (lows highs : List ℤ) (e : ℕ) : Type 0 where
@@ -27,8 +28,8 @@ pub record Filling (x y : List ℕ) (lows₀ highs₀ : List ℤ) (n : ℕ) (low
 pub fill-start : (x y : List ℕ) (lows highs : List ℤ) (n : ℕ) → Filling x y lows highs n lows highs 0
 fill-start x y lows highs n = record {
   scanned = scan-start _ n;
-  lows-are = tab-none lows (λ e. rangeIn x y e .low);
-  highs-are = tab-none highs (λ e. rangeIn x y e .high);
+  lows-are = fill-none (λ e. rangeIn x y e .low) lows;
+  highs-are = fill-none (λ e. rangeIn x y e .high) highs;
   low-length = refl;
   high-length = refl;
 }
@@ -56,8 +57,8 @@ module _ {x y : List ℕ} {lows₀ highs₀ : List ℤ} {n : ℕ} {lows highs : 
         → Filling x y lows₀ highs₀ n (set lows e low) (set highs e high) (e + 1)
     fill-next lows-fit highs-fit p q h = record {
       scanned = scan-next (filling .scanned) l fits h;
-      lows-are = rw (filling .lows-are, p, is) (tab-more lows₀ (λ i. rangeIn x y i .low) (pos 0) e (omega arith));
-      highs-are = rw (filling .highs-are, q, is) (tab-more highs₀ (λ i. rangeIn x y i .high) (pos 0) e (omega arith));
+      lows-are = fill-more (λ i. rangeIn x y i .low) lows₀ (filling .lows-are) (p ∙ ap (λ (q : Range). q .low) is) (omega arith);
+      highs-are = fill-more (λ i. rangeIn x y i .high) highs₀ (filling .highs-are) (q ∙ ap (λ (s : Range). s .high) is) (omega arith);
       low-length = simp length-set (filling .low-length);
       high-length = simp length-set (filling .high-length);
     }

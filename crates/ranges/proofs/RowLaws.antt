@@ -1,21 +1,18 @@
 -- Rows that are filled from the front hold the ranges: a look-up is the entry's range. Where row 6 holds, every entry's range can
 -- be asked for.
 -- Assumes nothing.
-use Prim.Native.Nat.{ℕ, suc, _+_, _<_, _≤_}
-use mathlib.Core.Path.{_≡_, refl, ap₂, _∙_}
-use mathlib.Core.List.{List, _++_, append-assoc}
-use native.Mathlib.Numerals.{add-one}
+use Prim.Native.Nat.{ℕ, _<_, _≤_}
+use mathlib.Core.Path.{_≡_, refl, ap₂}
+use mathlib.Core.List.{List}
 use native.Mathlib.Decide.{decLt}
 use native.Mathlib.Omega.{arith}
 use borrow.Author.Tests.{le-ltb}
-use lib.ListN.{length, getD, drop, set, length-append, length-drop, List·getD-append}
-use lib.Seq.{drop-cons, set-at}
+use lib.ListN.{length}
 use lib.IntN.{ℤ, pos}
 use Rattle.folder.specs.Contents.{countOf}
 use Rattle.folder.specs.Scan.{firstBad}
-use Rattle.folder.specs.Tab.{tab}
 use Rattle.folder.proofs.ScanLaws.{found}
-use Rattle.folder.proofs.TabLaws.{length-tab, getD-tab}
+use Rattle.folder.proofs.FillLaws.{length-fill, getD-filled}
 use Rattle.expressions.specs.Entries.{entriesOf, numberForm}
 use Rattle.expressions.specs.Levels.{numberAt}
 use Rattle.expressions.specs.Ranges.{span, boundIn, rangeOf, inside, limits}
@@ -24,28 +21,12 @@ use Rattle.expressions.specs.Rules.{rangeFits}
 use Rattle.expressions.proofs.Decided.{inside-decided, range-decided}
 use Rattle.ranges.specs.Settled.{rangeIn, Based, lowEnds, highEnds, Settled, Ranged}
 
-module _ {A : Type 0} (d : List A) (f : ℕ → A) where
-  pub tab-none : d ≡ tab 0 f ++ drop 0 d
-  unfolding tab
-  tab-none = refl
-
-  -- One more place is filled.
-  pub tab-more : (z : A) (i : ℕ) → i < length d → set (tab i f ++ drop i d) i (f i) ≡ tab (i + 1) f ++ drop (i + 1) d
-  unfolding tab
-  tab-more z i h = rw (add-one, drop-cons d i z, append-assoc) (set-at (tab i f) (getD d i z) (drop (suc i) d) (f i) i (length-tab i f))
-
-  pub length-filled : (n : ℕ) → n ≤ length d → length (tab n f ++ drop n d) ≡ length d
-  length-filled n h = simp (length-append, length-tab, length-drop) (omega arith)
-
-  pub filled-at : (z : A) (n i : ℕ) → i < n → getD (tab n f ++ drop n d) i z ≡ f i
-  filled-at z n i h = List·getD-append (tab n f) (drop n d) z i (rw (length-tab n f) h) ∙ getD-tab z n f i h
-
 pub settled : (x y : List ℕ) (n : ℕ) (lows highs lows₀ highs₀ : List ℤ)
     → lows ≡ lowEnds x y n lows₀ → highs ≡ highEnds x y n highs₀ → n ≤ length lows₀ → n ≤ length highs₀ → Settled x y lows highs n
 settled x y n lows highs lows₀ highs₀ p q h l = record {
-  low-row = rw (p, length-filled lows₀ (λ e. rangeIn x y e .low) n h) h;
-  high-row = rw (q, length-filled highs₀ (λ e. rangeIn x y e .high) n l) l;
-  is = λ i k. rw (p, q) (ap₂ span (filled-at lows₀ (λ e. rangeIn x y e .low) (pos 0) n i k) (filled-at highs₀ (λ e. rangeIn x y e .high) (pos 0) n i k));
+  low-row = rw (p, length-fill n (λ e. rangeIn x y e .low) lows₀ h) h;
+  high-row = rw (q, length-fill n (λ e. rangeIn x y e .high) highs₀ l) l;
+  is = λ i k. rw (p, q) (ap₂ span (getD-filled (pos 0) n (λ e. rangeIn x y e .low) lows₀ i k) (getD-filled (pos 0) n (λ e. rangeIn x y e .high) highs₀ i k));
 }
 
 -- Where none of the first n ranges leaves the limits.

@@ -1,8 +1,7 @@
 -- Document 01, "Pedal example": what the check program prints.
 -- Assumes nothing.
 use Prim.Native.Nat.{ℕ, _+_}
-use mathlib.Core.Bool.{Bool, true, false}
-use mathlib.Core.List.{List, [], _∷_, _++_}
+use mathlib.Core.List.{List, [], _++_}
 use lib.Dec.{eqb}
 use Rattle.mdp.specs.Graph.{figure}
 use Rattle.folder.specs.Pick.{pick}

@@ -17,8 +17,10 @@ use Rattle.model.specs.Layout.{variableCount}
 use Rattle.model.specs.Model.{Model, modelOf}
 use Rattle.graph.specs.Simulation.{nodeSize, Simulation, simulationOf}
 use Rattle.graph.specs.Valid.{Valid}
-use Rattle.rounds.specs.Rounds.{fill, source, ownStart, ownNext, nextRound, nodesOf, ownStartRow, ownNextRow, coverRow, startRow, nextRow}
-use Rattle.rounds.proofs.RoundLaws.{getD-filled, getD-kept, drop-filled, shared-source}
+use Rattle.rounds.specs.Rounds.{source, ownStart, ownNext, nextRound, nodesOf, ownStartRow, ownNextRow, coverRow, startRow, nextRow}
+use Rattle.folder.specs.Tab.{fill}
+use Rattle.folder.proofs.FillLaws.{getD-filled, getD-kept, drop-filled}
+use Rattle.rounds.proofs.RoundLaws.{shared-source}
 
 module _ {m g : List ℕ} (A : Valid m g) where
   abbrev M : Model
@@ -54,13 +56,13 @@ module _ {m g : List ℕ} (A : Valid m g) where
   source-stands d n {s} {row} l e p = rw (e, p) (go (decLt (source G n) n))
     where
       go : Dec (source G n < n) → getD (fill n (λ k. getD d (source G k) 0) d) (source G n) 0 ≡ getD d (source G n) 0
-      go (yes k) = getD-filled n _ d (source G n) k ∙ ap (λ (j : ℕ). getD d j 0) (source-open n l)
-      go (no h) = getD-kept n _ d (source G n) (omega arith)
+      go (yes k) = getD-filled 0 n _ d (source G n) k ∙ ap (λ (j : ℕ). getD d j 0) (source-open n l)
+      go (no h) = getD-kept 0 n _ d (source G n) (omega arith)
 
   -- Both passes: each node holds what its source held of its own.
   both : (own f : ℕ → ℕ) (d : List ℕ) → ((n : ℕ) → f n ≡ own (source G n)) → coverRow m g (fill (nodesOf m g) own d) ≡ fill (nodesOf m g) f d
   both own f d e =
-      λ i. tab-same (nodesOf m g) _ f (λ n l. getD-filled (nodesOf m g) own d (source G n) (source-in n l) ∙ sym (e n)) i ++ drop-filled (nodesOf m g) own d i
+      λ i. tab-same (nodesOf m g) _ f (λ n l. getD-filled 0 (nodesOf m g) own d (source G n) (source-in n l) ∙ sym (e n)) i ++ drop-filled (nodesOf m g) own d i
 
   pub start-both : (d : List ℕ) → coverRow m g (ownStartRow m g d) ≡ startRow m g d
   unfolding ownStart round

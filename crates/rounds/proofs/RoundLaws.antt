@@ -1,56 +1,28 @@
--- Laws of a round: rounding up, figures by kind, and rows that are filled one element after another.
+-- Laws of a round: rounding up, figures by kind.
 -- Assumes nothing.
-use Prim.Native.Nat.{ℕ, suc, _+_, _-_, _*_, _/_, _≤_, _<_}
+use Prim.Native.Nat.{ℕ, _+_, _-_, _*_, _/_, _≤_, _<_}
 use native.Mathlib.Nat.{div-lt-iff-lt-mul}
 use native.Mathlib.Decide.{ℕ-discrete}
-use native.Mathlib.Numerals.{add-one}
 use borrow.Author.Tests.{ne-eqb}
 use native.Mathlib.Omega.{arith}
-use mathlib.Core.Path.{_≡_, refl, ap, _∙_}
+use mathlib.Core.Path.{_≡_, refl}
 use mathlib.Core.Bool.{Bool, true, false}
-use mathlib.Core.List.{List, append-assoc}
+use mathlib.Core.List.{List}
 use lib.Dec.{eqb}
-use lib.ListN.{length, getD, drop, set, length-append, length-drop, List·getD-append}
-use lib.Seq.{drop-cons, set-at, drop-at, getD-append-add, getD-drop}
+use lib.ListN.{getD}
 use Rattle.mdp.specs.Sums.{greatest}
 use Rattle.mdp.specs.Kinds.{waiting, expanded, covered, target}
 use Rattle.mdp.specs.Graph.{along, start, again, shared, up}
 use Rattle.folder.specs.Pick.{pick}
-use Rattle.folder.specs.Tab.{tab}
-use Rattle.folder.proofs.TabLaws.{length-tab, getD-tab}
 use Rattle.model.specs.Model.{Model}
 use Rattle.model.specs.Chances.{mdp}
 use Rattle.graph.specs.Limits.{units}
 use Rattle.graph.specs.Simulation.{Simulation, graph, kindOf}
-use Rattle.rounds.specs.Rounds.{fill, figureBy, source, ownStart, ownNext}
+use Rattle.rounds.specs.Rounds.{figureBy, source, ownStart, ownNext}
 
 -- An average of at most s rounds up to at most s.
 pub up-small : (d x s : ℕ) → 0 < d → x ≤ d * s → (x + (d - 1)) / d < s + 1
 up-small d x s p h = div-lt-iff-lt-mul {k = d} {x = x + (d - 1)} {y = s + 1} p .1 (omega arith)
-
--- ---- a row that is filled
-pub fill-none : (f : ℕ → ℕ) (d : List ℕ) → d ≡ fill 0 f d
-unfolding tab
-fill-none f d = refl
-
-pub fill-more : (f : ℕ → ℕ) (d : List ℕ) {i v : ℕ} {row : List ℕ} → row ≡ fill i f d → v ≡ f i → i < length d → set row i v ≡ fill (i + 1) f d
-unfolding tab
-fill-more f d {i} {v} {row} p q l =
-    rw (p, q, add-one, drop-cons d i 0, append-assoc) (set-at (tab i f) (getD d i 0) (drop (suc i) d) (f i) i (length-tab i f))
-
-pub length-fill : (n : ℕ) (f : ℕ → ℕ) (d : List ℕ) → n ≤ length d → length (fill n f d) ≡ length d
-length-fill n f d l = simp (length-append, length-tab, length-drop) (omega arith)
-
-pub getD-filled : (n : ℕ) (f : ℕ → ℕ) (d : List ℕ) (k : ℕ) → k < n → getD (fill n f d) k 0 ≡ f k
-getD-filled n f d k l = List·getD-append (tab n f) (drop n d) 0 k (rw (length-tab n f) l) ∙ getD-tab 0 n f k l
-
-pub getD-kept : (n : ℕ) (f : ℕ → ℕ) (d : List ℕ) (k : ℕ) → n ≤ k → getD (fill n f d) k 0 ≡ getD d k 0
-getD-kept n f d k l =
-    let e : k ≡ length (tab n f) + (k - n) = omega (arith, length-tab n f) in
-    ap (λ (j : ℕ). getD (fill n f d) j 0) e ∙ getD-append-add (tab n f) (drop n d) (k - n) 0 ∙ getD-drop n d (k - n) 0 ∙ ap (λ (j : ℕ). getD d j 0) (omega arith)
-
-pub drop-filled : (n : ℕ) (f : ℕ → ℕ) (d : List ℕ) → drop n (fill n f d) ≡ drop n d
-drop-filled n f d = drop-at (tab n f) (drop n d) n (length-tab n f)
 
 -- ---- figures by kind
 module _ (M : Model) (G : Simulation) where

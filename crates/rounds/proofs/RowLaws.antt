@@ -18,7 +18,7 @@ use Rattle.graph.specs.Simulation.{simulationOf}
 use Rattle.graph.specs.Figures.{figures}
 use Rattle.graph.specs.Valid.{Valid}
 use Rattle.rounds.specs.Rounds.{Round, nodesOf, startRow, nextRow, firstAt, secondAt, turnFirst, turnSecond, heldIn, sameFirst}
-use Rattle.rounds.proofs.RoundLaws.{drop-filled}
+use Rattle.folder.proofs.FillLaws.{drop-filled}
 use Rattle.rounds.proofs.FigureLaws.{figures-long, begins, round-held, figures-next, figures-same, settled}
 
 parity : (k : ℕ) → (k % 2 ≡ 0) ⊎ (k % 2 ≡ 1)

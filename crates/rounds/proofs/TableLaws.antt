@@ -9,9 +9,10 @@ use lib.ListN.{length}
 use Rattle.folder.specs.Contents.{body, field, countOf}
 use Rattle.model.specs.Layout.{variableCount, branchSize}
 use Rattle.model.specs.Model.{modelOf}
-use Rattle.rounds.specs.Rounds.{Tables, weightIn, firstIn, Light, fill}
+use Rattle.rounds.specs.Rounds.{Tables, weightIn, firstIn, Light}
 use Rattle.rounds.proofs.EdgeLaws.{sum-next}
-use Rattle.rounds.proofs.RoundLaws.{getD-filled, length-fill}
+use Rattle.folder.specs.Tab.{fill}
+use Rattle.folder.proofs.FillLaws.{getD-filled, length-fill}
 
 pub light-none : (f : ℕ → ℕ) → Light 0 f
 light-none f = record { fits = λ r l. absurd (not-suc-le-zero l) }
@@ -33,9 +34,9 @@ module _ (m : List ℕ) {size : ℕ} {bs cs : List ℕ} (z : size ≡ branchSize
   pub tables-of : (w f : List ℕ) {weights firsts : List ℕ} → weights ≡ fill (countOf size bs) (weightIn size bs) w → Light (countOf size bs) (weightIn size bs)
       → firsts ≡ fill (countOf 4 cs) (firstIn cs) f → modelOf m .records ≤ length w → modelOf m .commands ≤ length f → Tables (modelOf m) weights firsts
   tables-of w f e l d a b = rw (e, d) (record {
-    weighed = λ r k. getD-filled (countOf size bs) (weightIn size bs) w r (rw (record-count m z p) k) ∙ rw (z, p) refl;
-    light = λ r k. rw (getD-filled (countOf size bs) (weightIn size bs) w r (rw (record-count m z p) k)) (l .fits r (rw (record-count m z p) k));
-    placed = λ c k. getD-filled (countOf 4 cs) (firstIn cs) f c (rw (command-count m q) k) ∙ rw q refl;
+    weighed = λ r k. getD-filled 0 (countOf size bs) (weightIn size bs) w r (rw (record-count m z p) k) ∙ rw (z, p) refl;
+    light = λ r k. rw (getD-filled 0 (countOf size bs) (weightIn size bs) w r (rw (record-count m z p) k)) (l .fits r (rw (record-count m z p) k));
+    placed = λ c k. getD-filled 0 (countOf 4 cs) (firstIn cs) f c (rw (command-count m q) k) ∙ rw q refl;
     weights-long = rw (length-fill (countOf size bs) (weightIn size bs) w (rw (record-count m z p) a)) a;
     firsts-long = rw (length-fill (countOf 4 cs) (firstIn cs) f (rw (command-count m q) b)) b;
   })

@@ -3,13 +3,13 @@
 use Prim.Native.Nat.{ℕ, _+_, _-_, _/_, _≤_, _<_}
 use mathlib.Core.Path.{_≡_}
 use mathlib.Core.Bool.{Bool}
-use mathlib.Core.List.{List, _++_}
-use lib.ListN.{length, getD, drop}
+use mathlib.Core.List.{List}
+use lib.ListN.{length, getD}
 use lib.Dec.{eqb}
 use Rattle.mdp.specs.Sums.{sum}
 use Rattle.mdp.specs.Graph.{start, again, shared, up, figure}
 use Rattle.folder.specs.Pick.{pick}
-use Rattle.folder.specs.Tab.{tab}
+use Rattle.folder.specs.Tab.{fill}
 use Rattle.folder.specs.Scan.{all}
 use Rattle.folder.specs.Contents.{field}
 use Rattle.folder.specs.declared.Outcome.the-variants.{Accepted}
@@ -44,10 +44,6 @@ pub record Light (n : ℕ) (f : ℕ → ℕ) : Type 0 where
 pub record Round (nodes : ℕ) (row : List ℕ) : Type 0 where
   pub long : nodes ≤ length row
   pub small : (n : ℕ) → n < nodes → getD row n 0 ≤ units
-
--- A row whose first n elements are f's values; the later ones stay.
-abbrev pub fill : ℕ → (ℕ → ℕ) → List ℕ → List ℕ
-fill n f row = tab n f ++ drop n row
 
 -- The figure of a node by its kind, unless it is covered: `best` is the greatest sum over its edges.
 unfoldable pub figureBy : ℕ → ℕ → ℕ → ℕ

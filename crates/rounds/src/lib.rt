@@ -7,6 +7,7 @@ ghost use Rattle.folder.specs.Fields.{u16};
 ghost use Rattle.folder.specs.Contents.{field, countOf};
 ghost use Rattle.folder.specs.Pick.{pick};
 ghost use Rattle.folder.specs.Scan.{firstBad};
+ghost use Rattle.folder.specs.Tab.{fill};
 ghost use Rattle.folder.specs.declared.Outcome.the-variants.{Accepted};
 ghost use Rattle.model.specs.Model.{modelOf};
 ghost use Rattle.graph.specs.Limits.{units};
@@ -14,7 +15,7 @@ ghost use Rattle.graph.specs.Simulation.{simulationOf};
 ghost use Rattle.graph.specs.Figures.{firstOf, secondOf};
 ghost use Rattle.graph.specs.Valid.{Valid};
 ghost use Rattle.rounds.specs.Edges.{sumAt, EdgeFits, after, EdgesReady, bestOf};
-ghost use Rattle.rounds.specs.Rounds.{Tables, weightIn, firstIn, Light, Round, fill, figureBy, nodesOf, Shaped, ownStartRow, ownNextRow, coverRow, startRow, nextRow, firstAt, secondAt, turnFirst, turnSecond, heldIn, alike, sameFirst};
+ghost use Rattle.rounds.specs.Rounds.{Tables, weightIn, firstIn, Light, Round, figureBy, nodesOf, Shaped, ownStartRow, ownNextRow, coverRow, startRow, nextRow, firstAt, secondAt, turnFirst, turnSecond, heldIn, alike, sameFirst};
 
 // Certainty.
 const UNITS: u32 = 1000000000;

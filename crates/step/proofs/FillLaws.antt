@@ -1,7 +1,7 @@
 -- A loop that fills a row from the front: its invariant, and its three facts.
 -- Assumes nothing.
 use Prim.Native.Nat.{ℕ, _+_, _<_, _≤_, zero-le}
-use mathlib.Core.Path.{_≡_, refl, ap, ap₂, _∙_}
+use mathlib.Core.Path.{_≡_, refl, ap, _∙_}
 use mathlib.Core.List.{List, _++_}
 use native.Mathlib.Omega.{arith}
 use lib.ListN.{length, drop, set, length-set}
@@ -9,8 +9,8 @@ use lib.Seq.{ext-getD}
 use lib.IntN.{pos}
 use Rattle.folder.specs.Tab.{tab}
 use Rattle.folder.proofs.TabLaws.{length-tab, getD-tab}
+use Rattle.folder.proofs.FillLaws.{fill-none, fill-more}
 use Rattle.expressions.specs.Meaning.{State, valueOf}
-use Rattle.ranges.proofs.RowLaws.{tab-none, tab-more}
 
 -- Of n places, the first i of the row hold f, and the others are as they were.
 pub record Filled {A : Type 0} (f : ℕ → A) (n : ℕ) (row₀ row : List A) (i : ℕ) : Type 0 where
@@ -20,14 +20,14 @@ pub record Filled {A : Type 0} (f : ℕ → A) (n : ℕ) (row₀ row : List A) (
 
 module _ {A : Type 0} where
   pub fill-start : (f : ℕ → A) (n : ℕ) (row : List A) → Filled f n row row 0
-  fill-start f n row = record { within = zero-le; long = refl; is = tab-none row f }
+  fill-start f n row = record { within = zero-le; long = refl; is = fill-none f row }
 
   module _ {f : ℕ → A} {n : ℕ} {row₀ row : List A} {i : ℕ} (h : Filled f n row₀ row i) where
     pub fill-next : {z : A} → i < n → n ≤ length row₀ → z ≡ f i → Filled f n row₀ (set row i z) (i + 1)
     fill-next {z} l k e = record {
       within = omega arith;
       long = length-set row i z ∙ h .long;
-      is = ap₂ (λ (r : List A) (y : A). set r i y) (h .is) e ∙ tab-more row₀ f z i (omega arith);
+      is = fill-more f row₀ (h .is) e (omega arith);
     }
 
     pub fill-over : n ≤ i → row ≡ tab n f ++ drop n row₀

@@ -1,17 +1,15 @@
 use Prim.Native.Nat.{ℕ, _-_, _≤_}
-use mathlib.Core.Path.{_≡_, refl, _∙_, ap, ap₂}
-use mathlib.Core.List.{List, _++_}
+use mathlib.Core.Path.{_≡_, refl, _∙_, ap}
 use native.Mathlib.Omega.{arith}
 use borrow.Author.Needs.{needs}
-use lib.IntN.{ℤ}
-use lib.ListN.{length, drop, set, length-set}
+use lib.ListN.{length, length-set}
 use Rattle.folder.specs.Contents.{countOf}
-use Rattle.folder.specs.Tab.{tab}
+use Rattle.folder.specs.Tab.{fill}
+use Rattle.folder.proofs.FillLaws.{fill-none, fill-more}
 use Rattle.folder.proofs.Signed.{back}
 use Rattle.expressions.specs.Entries.{entriesOf}
 use Rattle.expressions.specs.Reading.{lookIn}
 use Rattle.evaluate.specs.Settled.{flagOf, contentOf, flagAt, contentAt}
-use Rattle.evaluate.proofs.Fill.{fill-none, fill-more}
 use Rattle.evaluate.proofs.Rows.{filled}
 use Rattle.evaluate.proofs.settle.Statement.{statement}
 use Rattle.evaluate.proofs.settle.Tie as tie
@@ -19,9 +17,9 @@ use Rattle.evaluate.proofs.settle.Tie as tie
 abbrev Inv-loop : tie.InvT-loop
 Inv-loop x t v known₀ values₀ n e₀ known values e =
     (e ≤ n)
-    × (known ≡ tab e (flagAt (entriesOf x) (lookIn t v)) ++ drop e known₀)
+    × (known ≡ fill e (flagAt (entriesOf x) (lookIn t v)) known₀)
     × (length known ≡ length known₀)
-    × (values ≡ tab e (contentAt (entriesOf x) (lookIn t v)) ++ drop e values₀)
+    × (values ≡ fill e (contentAt (entriesOf x) (lookIn t v)) values₀)
     × (length values ≡ length values₀)
 
 abbrev μ-loop : tie.MeasureT-loop
@@ -61,12 +59,11 @@ loop-again c =
     let h = l .before .before .before .before .args in
     let X = entriesOf (h .x .now) in
     let L = lookIn (h .t) (h .v .now) in
-    let e = l .loop .e in
     let r = c .before .before .settle-entry .ensures in (
       omega arith,
-      ap₂ (λ (k : List ℕ) (a : ℕ). set k e a) (l .loop .inv .1) (c .before .flag-of .ensures ∙ ap flagOf r) ∙ fill-more (flagAt X L) (h .known .now) e (omega arith),
+      fill-more (flagAt X L) (h .known .now) (l .loop .inv .1) (c .before .flag-of .ensures ∙ ap flagOf r) (omega arith),
       simp length-set (l .loop .inv .2),
-      ap₂ (λ (k : List ℤ) (a : ℤ). set k e a) (l .loop .inv .3) (back (c .content-of .ok) ∙ c .content-of .ensures ∙ ap contentOf r) ∙ fill-more (contentAt X L) (h .values .now) e (omega arith),
+      fill-more (contentAt X L) (h .values .now) (l .loop .inv .3) (back (c .content-of .ok) ∙ c .content-of .ensures ∙ ap contentOf r) (omega arith),
       simp length-set (l .loop .inv .4),
     )
 
@@ -83,7 +80,7 @@ returns c =
     let X = entriesOf (h .x .now) in
     let L = lookIn (h .t) (h .v .now) in
     let q : l .loop .e ≡ countOf 8 (h .x .now) = omega arith in
-    (l .loop .inv .1 ∙ ap (λ (k : ℕ). tab k (flagAt X L) ++ drop k (h .known .now)) q, l .loop .inv .3 ∙ ap (λ (k : ℕ). tab k (contentAt X L) ++ drop k (h .values .now)) q)
+    (l .loop .inv .1 ∙ ap (λ (k : ℕ). fill k (flagAt X L) (h .known .now)) q, l .loop .inv .3 ∙ ap (λ (k : ℕ). fill k (contentAt X L) (h .values .now)) q)
 
 pub settle-spec : {M : Type 1} → statement M
 settle-spec =

@@ -5,8 +5,8 @@ use native.Mathlib.Omega.{arith}
 use lib.ListN.{length, length-set}
 use borrow.Author.Needs.{needs}
 use Rattle.folder.specs.Contents.{countOf, field4}
-use Rattle.rounds.specs.Rounds.{fill}
-use Rattle.rounds.proofs.RoundLaws.{fill-none, fill-more}
+use Rattle.folder.specs.Tab.{fill}
+use Rattle.folder.proofs.FillLaws.{fill-none, fill-more}
 use Rattle.labels.proofs.fill_fields.Statement.{statement}
 use Rattle.labels.proofs.fill_fields.Tie as tie
 

@@ -1,7 +1,4 @@
-use mathlib.Core.Path.{_≡_, sym, ap, _∙_}
-use denote.Ref.{now}
 use borrow.Author.Needs.{needs}
-use Rattle.graph.specs.declared.Summary.{Summary}
 use Rattle.nodes.proofs.summary_of.Statement.{statement}
 use Rattle.nodes.proofs.summary_of.Tie as tie
 

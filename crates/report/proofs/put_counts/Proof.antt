@@ -3,8 +3,8 @@ use mathlib.Core.List.{_++_}
 use native.Mathlib.Omega.{arith}
 use denote.Ref.{now}
 use borrow.Author.Needs.{needs}
-use Rattle.text.specs.Text.{ascii, decimal, Holds}
-use Rattle.text.proofs.TextLaws.{holds-none, holds-more, digits-few}
+use Rattle.text.specs.Text.{ascii, decimal}
+use Rattle.text.proofs.TextLaws.{holds-none, holds-more}
 use Rattle.report.proofs.put_counts.Statement.{statement}
 use Rattle.report.proofs.put_counts.Tie as tie
 

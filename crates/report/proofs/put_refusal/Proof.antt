@@ -1,8 +1,7 @@
-use Prim.Native.Nat.{_+_}
 use native.Mathlib.Omega.{arith}
 use denote.Ref.{now}
 use borrow.Author.Needs.{needs}
-use Rattle.text.specs.Text.{ascii, decimal, Holds}
+use Rattle.text.specs.Text.{ascii, decimal}
 use Rattle.text.proofs.TextLaws.{holds-none, holds-more, digits-few}
 use Rattle.report.proofs.put_refusal.Statement.{statement}
 use Rattle.report.proofs.put_refusal.Tie as tie

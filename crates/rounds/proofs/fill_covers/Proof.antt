@@ -4,8 +4,9 @@ use denote.Ref.{now}
 use lib.ListN.{length, getD, length-set}
 use Rattle.model.specs.Model.{modelOf}
 use Rattle.graph.specs.Simulation.{simulationOf}
-use Rattle.rounds.specs.Rounds.{nodesOf, fill, source}
-use Rattle.rounds.proofs.RoundLaws.{fill-none, fill-more}
+use Rattle.rounds.specs.Rounds.{nodesOf, source}
+use Rattle.folder.specs.Tab.{fill}
+use Rattle.folder.proofs.FillLaws.{fill-none, fill-more}
 use Rattle.rounds.proofs.CoverLaws.{source-in, source-is, source-stands}
 use native.Mathlib.Omega.{arith}
 use borrow.Author.Needs.{needs}

@@ -1,5 +1,6 @@
 use denote.Ref.{now}
-use Rattle.rounds.proofs.RoundLaws.{fill-none, fill-more}
+use Rattle.folder.specs.Tab.{fill}
+use Rattle.folder.proofs.FillLaws.{fill-none, fill-more}
 use Rattle.rounds.proofs.NodeLaws.{Parts, some-total, starts-none, node-ready, node-next, node-small, node-figure}
 use Prim.Native.Nat.{_≤_, _<_, _-_}
 use mathlib.Core.Path.{_≡_, _∙_, refl}
@@ -7,7 +8,7 @@ use lib.ListN.{length, length-set}
 use Rattle.folder.specs.Contents.{body}
 use Rattle.model.specs.Model.{modelOf}
 use Rattle.graph.specs.Simulation.{edgesStart, nodeField, simulationOf}
-use Rattle.rounds.specs.Rounds.{nodesOf, fill, ownNext}
+use Rattle.rounds.specs.Rounds.{nodesOf, ownNext}
 use native.Mathlib.Omega.{arith}
 use borrow.Author.Needs.{needs}
 use Rattle.rounds.proofs.fill_next.Statement.{statement}

@@ -4,8 +4,10 @@ use denote.Ref.{now}
 use lib.ListN.{length, length-set}
 use Rattle.model.specs.Model.{modelOf}
 use Rattle.graph.specs.Simulation.{simulationOf}
-use Rattle.rounds.specs.Rounds.{nodesOf, fill, ownStart}
-use Rattle.rounds.proofs.RoundLaws.{fill-none, fill-more, own-start}
+use Rattle.rounds.specs.Rounds.{nodesOf, ownStart}
+use Rattle.folder.specs.Tab.{fill}
+use Rattle.folder.proofs.FillLaws.{fill-none, fill-more}
+use Rattle.rounds.proofs.RoundLaws.{own-start}
 use native.Mathlib.Omega.{arith}
 use borrow.Author.Needs.{needs}
 use Rattle.rounds.proofs.fill_start.Statement.{statement}

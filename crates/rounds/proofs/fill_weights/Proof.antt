@@ -4,8 +4,9 @@ use Prim.Native.Nat.{_≤_, _-_}
 use mathlib.Core.Path.{_≡_, _∙_, refl}
 use denote.Ref.{now}
 use lib.ListN.{length, length-set}
-use Rattle.rounds.specs.Rounds.{fill, weightIn, Light}
-use Rattle.rounds.proofs.RoundLaws.{fill-none, fill-more}
+use Rattle.rounds.specs.Rounds.{weightIn, Light}
+use Rattle.folder.specs.Tab.{fill}
+use Rattle.folder.proofs.FillLaws.{fill-none, fill-more}
 use native.Mathlib.Omega.{arith}
 use borrow.Author.Needs.{needs}
 use Rattle.rounds.proofs.fill_weights.Statement.{statement}

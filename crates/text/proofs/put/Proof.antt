@@ -1,4 +1,4 @@
-use Prim.Native.Nat.{_-_, _≤_, _+_}
+use Prim.Native.Nat.{_-_}
 use lib.ListN.{length}
 use native.Mathlib.Omega.{arith}
 use Rattle.text.proofs.TextLaws.{Copied, copy-start, copy-next, copy-over}

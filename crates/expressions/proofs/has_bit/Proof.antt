@@ -1,9 +1,9 @@
 use mathlib.Core.Path.{sym}
 use Rattle.expressions.specs.Reading.{hasBit}
-use Rattle.evaluate.proofs.Bits.{no-bit}
+use Rattle.expressions.proofs.Bits.{no-bit}
 use borrow.Author.Needs.{needs}
-use Rattle.evaluate.proofs.has_bit.Statement.{statement}
-use Rattle.evaluate.proofs.has_bit.Tie as tie
+use Rattle.expressions.proofs.has_bit.Statement.{statement}
+use Rattle.expressions.proofs.has_bit.Tie as tie
 
 returns : tie.Need-returns
 unfolding hasBit

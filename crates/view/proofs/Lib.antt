@@ -1,0 +1,2 @@
+pub mod ViewLaws
+mod PartLaws
