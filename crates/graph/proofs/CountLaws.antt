@@ -1,15 +1,21 @@
--- Loops over the places below n: one that answers whether all pass, and one that counts those that do.
+-- Loops over the places below n: one that answers whether all pass, and one that counts those that do; and how many
+-- nodes are of a kind.
 -- Assumes nothing.
-use Prim.Native.Nat.{ℕ, _+_, _≤_, _<_, zero-le}
+use Prim.Native.Nat.{ℕ, zero, suc, _+_, _≤_, _<_, zero-le}
+use native.Mathlib.Nat.{eq-or-lt-of-le, le-of-suc-le-suc, not-suc-le-zero}
 use native.Mathlib.Numerals.{add-one}
 use native.Mathlib.Omega.{arith}
 use mathlib.Core.Path.{_≡_, refl, sym, ap, _∙_}
+use mathlib.Core.Logic.{_≢_, ⊎-elim}
 use mathlib.Core.Bool.{Bool, true, false}
-use borrow.Author.Tests.{eq-eqb, ne-eqb}
+use borrow.Author.Tests.{eq-eqb, ne-eqb, eqb-false}
+use lib.Dec.{eqb}
 use Rattle.mdp.specs.Sums.{sum}
 use Rattle.folder.specs.Pick.{pick}
 use Rattle.folder.specs.Scan.{all}
 use Rattle.folder.proofs.ScanLaws.{Scanned, scan-found, scan-over}
+use Rattle.graph.specs.Simulation.{Simulation}
+use Rattle.graph.specs.Table.{kindCount}
 
 module _ {ok : ℕ → Bool} {n i : ℕ} (s : Scanned ok n i) where
   pub all-fails : {t : Bool} → i < n → t ≡ ok i → t ≡ false → false ≡ all ok n
@@ -46,3 +52,27 @@ module _ {ok : ℕ → Bool} {n i total : ℕ} (s : Counted ok n i total) where
   count-over {k} l e =
       let q : i ≡ k = omega (arith, s .within) in
       s .counted ∙ ap (passes ok) q
+
+-- ---- at most all places pass, and if none is counted then each fails
+pub passes-few : (ok : ℕ → Bool) (n : ℕ) → passes ok n ≤ n
+passes-few ok zero = zero-le
+passes-few ok (suc n) = by-test (ok n) (passes-few ok n)
+  where
+    by-test : (t : Bool) → passes ok n ≤ n → passes ok n + pick t 1 0 ≤ suc n
+    by-test true h = omega arith
+    by-test false h = omega arith
+
+pub none-passes : (ok : ℕ → Bool) (n : ℕ) → passes ok n ≡ 0 → (i : ℕ) → i < n → ok i ≡ false
+none-passes ok zero z i l = absurd (not-suc-le-zero l)
+none-passes ok (suc n) z i l = ⊎-elim (λ e. ap ok e ∙ by-test (ok n) z) (λ k. none-passes ok n (omega arith) i k) (eq-or-lt-of-le (le-of-suc-le-suc l))
+  where
+    by-test : (t : Bool) → passes ok n + pick t 1 0 ≡ 0 → t ≡ false
+    by-test true h = absurd (omega arith)
+    by-test false h = refl
+
+module _ (G : Simulation) (k : ℕ) where
+  pub kind-few : kindCount G k ≤ G .nodes
+  kind-few = passes-few (λ n. eqb (G .kind n) k) (G .nodes)
+
+  pub none-of-kind : kindCount G k ≡ 0 → (n : ℕ) → n < G .nodes → G .kind n ≢ k
+  none-of-kind z n l = eqb-false (G .kind n) k (none-passes (λ i. eqb (G .kind i) k) (G .nodes) z n l)

@@ -34,6 +34,10 @@ rootLine root = ascii "root " ++ (decimal root ++ ascii "\n")
 abbrev pub withinLine : ℕ → ℕ → List ℕ
 withinLine h f = ascii "within " ++ (decimal h ++ ascii " ") ++ (decimal f ++ ascii "\n")
 
+-- And for 0 to 3 steps.
+abbrev pub figureLines : ℕ → ℕ → ℕ → ℕ → List ℕ
+figureLines f0 f1 f2 f3 = withinLine 0 f0 ++ withinLine 1 f1 ++ withinLine 2 f2 ++ withinLine 3 f3
+
 -- A refusal is one line, number and place.
 abbrev pub refusedLine : Refusal → List ℕ
 refusedLine f = ascii "refused " ++ decimal (f .number) ++ ascii " " ++ decimal (f .place) ++ ascii "\n"
@@ -42,12 +46,16 @@ refusedLine f = ascii "refused " ++ decimal (f .number) ++ ascii " " ++ decimal 
 abbrev pub textOf : GraphAnswer → (ℕ → ℕ) → List ℕ
 textOf (Accepted s) root =
     countsLine s ++ rootLine (s .root)
-    ++ pick (eqb (s .waiting) 0) (withinLine 0 (root 0) ++ withinLine 1 (root 1) ++ withinLine 2 (root 2) ++ withinLine 3 (root 3)) []
+    ++ pick (eqb (s .waiting) 0) (figureLines (root 0) (root 1) (root 2) (root 3)) []
 textOf (Refused f) root = refusedLine f
+
+-- The root's figure for h steps.
+abbrev pub rootFigure : List ℕ → List ℕ → ℕ → ℕ
+rootFigure m g h = figure (mdp (modelOf m)) (graph (simulationOf (modelOf m) g)) units h 0
 
 -- What the check program prints of two files' bytes.
 unfoldable pub reportText : List ℕ → List ℕ → List ℕ
-reportText m g = textOf (graphAnswer m g) (λ h. figure (mdp (modelOf m)) (graph (simulationOf (modelOf m) g)) units h 0)
+reportText m g = textOf (graphAnswer m g) (rootFigure m g)
 
 -- The lines for a file that cannot be read, and for one that is too long.
 abbrev pub noFile : List ℕ
