@@ -7,18 +7,48 @@
 //! a [`Summary`]. No strategy reaches a target of the model with a greater chance
 //! than the root value of an accepted graph.
 //!
-//! The checker itself is a static library, machine-checked. This crate holds the
-//! types that its answers come in. Beside it, and sharing no code with it:
+//! The checker itself is a static library, machine-checked: every call is proved
+//! to answer as document 01 defines, on every input, of any content and length.
+//! This crate links it and wraps each call. No call panics, allocates, or keeps
+//! anything; all may be made from any number of threads at once.
+//!
+//! Values and figures are whole units; [`CERTAIN`] units are certainty.
+//!
+//! ```
+//! use laguipy::{figure, graph_check, Refusal};
+//!
+//! let model = include_bytes!("../../../examples/pedal/model.fold");
+//! let graph = include_bytes!("../../../examples/pedal/graph.fold");
+//! let summary = graph_check(model, graph).expect("an accepted graph");
+//! assert_eq!(summary.root, 10_000_000);
+//!
+//! let (mut first, mut second) = ([0; 6], [0; 6]);
+//! let figures = figure(model, graph, 2, &mut first, &mut second).expect("no node waits");
+//! assert_eq!(figures, [10_000_000, 0, 100_000_000, 10_000_000, 0, 1_000_000_000]);
+//!
+//! assert_eq!(graph_check(model, &graph[1..]), Err(Refusal { number: 13, place: 0 }));
+//! ```
+//!
+//! Beside the calls, and sharing no code with them:
 //!
 //! - `tests/reference`: the same calls in plain Rust, for comparison; it rests on
 //!   document 01 alone;
 //! - `tests/generate`: models and graphs, valid, nearly valid, damaged and at the
 //!   limits, each from a seed (the environment variable `LAGUIPY_CASES` says how
 //!   many seeds the tests take);
-//! - `examples/bench_reference.rs`: how long the plain calls take on the largest
-//!   inputs.
-//!
-//! Values and figures are whole units; 1,000,000,000 units are certainty.
+//! - `tests/against_reference.rs`: every call compared with the plain one;
+//! - `examples/check.rs`: the check program; `examples/bench.rs`: how long both
+//!   take on the largest inputs.
+
+/// Certainty, in units.
+pub const CERTAIN: u32 = 1_000_000_000;
+
+/// The most steps that a figure may be asked for.
+pub const MOST_STEPS: usize = 10_000;
+
+/// The most nodes that a graph may have: rows of this length are long enough for
+/// the figures of any.
+pub const MOST_NODES: usize = 4_096;
 
 /// The first broken rule: its number in document 01's table of causes, and the
 /// place returned with it (an entry, a variable, an expression, a node and so on,
@@ -29,6 +59,14 @@ pub struct Refusal {
     pub place: usize,
 }
 
+impl std::fmt::Display for Refusal {
+    fn fmt(&self, to: &mut std::fmt::Formatter<'_>) -> std::fmt::Result {
+        write!(to, "refused {} {}", self.number, self.place)
+    }
+}
+
+impl std::error::Error for Refusal {}
+
 /// What is told of an accepted graph: the root value, and how many nodes there
 /// are of each kind.
 #[derive(Clone, Copy, Debug, PartialEq, Eq, Hash)]
@@ -38,4 +76,269 @@ pub struct Summary {
     pub expanded: usize,
     pub covered: usize,
     pub target: usize,
+}
+
+/// include/laguipy.h, which says what each function answers.
+mod c {
+    extern "C" {
+        pub fn laguipy_model_check(model: *const u8, model_len: usize, place: *mut usize) -> usize;
+        pub fn laguipy_record_part(
+            model: *const u8,
+            model_len: usize,
+            body: usize,
+            record: usize,
+            part: *mut [usize; 2],
+        );
+        pub fn laguipy_graph_check(
+            model: *const u8,
+            model_len: usize,
+            graph: *const u8,
+            graph_len: usize,
+            place: *mut usize,
+            values: *mut [usize; 5],
+        ) -> usize;
+        pub fn laguipy_figure_refusal(
+            model: *const u8,
+            model_len: usize,
+            graph: *const u8,
+            graph_len: usize,
+            h: usize,
+            first: *const u32,
+            first_len: usize,
+            second: *const u32,
+            second_len: usize,
+            place: *mut usize,
+        ) -> usize;
+        pub fn laguipy_figure_rows(
+            model: *const u8,
+            model_len: usize,
+            graph: *const u8,
+            graph_len: usize,
+            h: usize,
+            first: *mut u32,
+            first_len: usize,
+            second: *mut u32,
+            second_len: usize,
+            place: *mut usize,
+        ) -> usize;
+        pub fn laguipy_figure(
+            model: *const u8,
+            model_len: usize,
+            graph: *const u8,
+            graph_len: usize,
+            h: usize,
+            first: *mut u32,
+            first_len: usize,
+            second: *mut u32,
+            second_len: usize,
+            place: *mut usize,
+            part: *mut [usize; 2],
+        ) -> usize;
+        pub fn laguipy_step(
+            model: *const u8,
+            model_len: usize,
+            state: *const i16,
+            state_len: usize,
+            command: usize,
+            branch: usize,
+            result: *mut i16,
+            result_len: usize,
+            place: *mut usize,
+        ) -> usize;
+    }
+}
+
+/// Number and place as an answer; numbers are at most 33.
+fn outcome(number: usize, place: usize) -> Result<(), Refusal> {
+    match number {
+        0 => Ok(()),
+        _ => Err(Refusal { number: number as u32, place }),
+    }
+}
+
+/// The model check: rows 1 to 11 of the table.
+///
+/// # Errors
+///
+/// The first broken row, at its lowest broken place.
+pub fn model_check(model: &[u8]) -> Result<(), Refusal> {
+    let mut place = 0;
+    // SAFETY: the pointers are of a slice with its length and of a local, and are
+    // not kept.
+    let number = unsafe { c::laguipy_model_check(model.as_ptr(), model.len(), &mut place) };
+    outcome(number, place)
+}
+
+/// The view: a record of the model folder, by the number of its body (0 terms, 1
+/// variables, 2 expressions, 3 commands, 4 branches) and its own. Where the folder
+/// breaks row 1, 2 or 3, or there is no such body or record, the empty part at the
+/// folder's start.
+pub fn record_part(model: &[u8], body: usize, record: usize) -> &[u8] {
+    let mut part = [0; 2];
+    // SAFETY: as in `model_check`.
+    unsafe { c::laguipy_record_part(model.as_ptr(), model.len(), body, record, &mut part) };
+    let [start, length] = part;
+    model.get(start..).and_then(|rest| rest.get(..length)).unwrap_or(&model[..0])
+}
+
+/// The graph check: the model's rows, then 12 to 25.
+///
+/// # Errors
+///
+/// The first broken row, at its lowest broken place; but rows 18 to 25 are
+/// finished for one node before the next.
+pub fn graph_check(model: &[u8], graph: &[u8]) -> Result<Summary, Refusal> {
+    let (mut place, mut values) = (0, [0; 5]);
+    // SAFETY: as in `model_check`; the two locals are apart.
+    let number = unsafe {
+        c::laguipy_graph_check(
+            model.as_ptr(),
+            model.len(),
+            graph.as_ptr(),
+            graph.len(),
+            &mut place,
+            &mut values,
+        )
+    };
+    let [root, waiting, expanded, covered, target] = values;
+    // The root value is at most S.
+    outcome(number, place).map(|()| Summary { root: root as u32, waiting, expanded, covered, target })
+}
+
+/// What [`figure`] answers on these arguments; nothing is written.
+///
+/// # Errors
+///
+/// As [`figure`].
+pub fn figure_refusal(
+    model: &[u8],
+    graph: &[u8],
+    h: usize,
+    first: &[u32],
+    second: &[u32],
+) -> Result<(), Refusal> {
+    let mut place = 0;
+    // SAFETY: as in `model_check`; the rows are read only.
+    let number = unsafe {
+        c::laguipy_figure_refusal(
+            model.as_ptr(),
+            model.len(),
+            graph.as_ptr(),
+            graph.len(),
+            h,
+            first.as_ptr(),
+            first.len(),
+            second.as_ptr(),
+            second.len(),
+            &mut place,
+        )
+    };
+    outcome(number, place)
+}
+
+/// The figures for `h` steps, by both rows: round `h` stands in the first row when
+/// `h` is even, else in the second, one figure per node, and round `h` − 1 in the
+/// other, which is untouched at `h` = 0. Elements past the node count stay, and
+/// both rows when refused.
+///
+/// # Errors
+///
+/// As [`figure`].
+pub fn figure_rows(
+    model: &[u8],
+    graph: &[u8],
+    h: usize,
+    first: &mut [u32],
+    second: &mut [u32],
+) -> Result<(), Refusal> {
+    let mut place = 0;
+    // SAFETY: as in `model_check`; slices that are lent to be written are apart.
+    let number = unsafe {
+        c::laguipy_figure_rows(
+            model.as_ptr(),
+            model.len(),
+            graph.as_ptr(),
+            graph.len(),
+            h,
+            first.as_mut_ptr(),
+            first.len(),
+            second.as_mut_ptr(),
+            second.len(),
+            &mut place,
+        )
+    };
+    outcome(number, place)
+}
+
+/// The figures for `h` steps, as [`figure_rows`] leaves them: the part of a row
+/// that holds them, one per node. Each is an upper bound of the best chance, from
+/// that node's states, to reach a target within `h` steps, and at most `h` units
+/// above it.
+///
+/// # Errors
+///
+/// The graph check's refusal; then 26 where a node is waiting, 27 where `h` is
+/// over [`MOST_STEPS`], 28 where a row is shorter than the nodes.
+pub fn figure<'a>(
+    model: &[u8],
+    graph: &[u8],
+    h: usize,
+    first: &'a mut [u32],
+    second: &'a mut [u32],
+) -> Result<&'a mut [u32], Refusal> {
+    let (mut place, mut part) = (0, [0; 2]);
+    // SAFETY: as in `figure_rows`; the two locals are apart.
+    let number = unsafe {
+        c::laguipy_figure(
+            model.as_ptr(),
+            model.len(),
+            graph.as_ptr(),
+            graph.len(),
+            h,
+            first.as_mut_ptr(),
+            first.len(),
+            second.as_mut_ptr(),
+            second.len(),
+            &mut place,
+            &mut part,
+        )
+    };
+    let [row, length] = part;
+    let row = if row == 0 { first } else { second };
+    outcome(number, place).map(|()| row.get_mut(..length).unwrap_or(&mut []))
+}
+
+/// The step of a state by a command and a branch, also from a target. The new
+/// state stands first in the result row, whose later elements stay, and all of
+/// them when refused.
+///
+/// # Errors
+///
+/// The model check's refusal; then 29 where the state is not one value per
+/// variable or the result row is shorter, 30 where a value is outside its range,
+/// 31 where there is no such command, 32 where its guard is false, 33 where it has
+/// no such branch.
+pub fn step(
+    model: &[u8],
+    state: &[i16],
+    command: usize,
+    branch: usize,
+    result: &mut [i16],
+) -> Result<(), Refusal> {
+    let mut place = 0;
+    // SAFETY: as in `figure_rows`.
+    let number = unsafe {
+        c::laguipy_step(
+            model.as_ptr(),
+            model.len(),
+            state.as_ptr(),
+            state.len(),
+            command,
+            branch,
+            result.as_mut_ptr(),
+            result.len(),
+            &mut place,
+        )
+    };
+    outcome(number, place)
 }

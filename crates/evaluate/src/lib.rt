@@ -1,12 +1,11 @@
 // Evaluators of numbers and of truths: what an entry reads as in a label, and what it is in a state.
 ghost use mathlib.Core.Path.{_≡_};
-ghost use mathlib.Core.List.{_++_};
 ghost use Prim.Native.Nat.{_≤_};
-ghost use lib.ListN.{getD, length, drop};
+ghost use lib.ListN.{getD, length};
 ghost use lib.IntN.{pos};
 ghost use lib.Signed.{mag};
 ghost use Rattle.folder.specs.Contents.{countOf};
-ghost use Rattle.folder.specs.Tab.{tab};
+ghost use Rattle.folder.specs.Tab.{fill};
 ghost use Rattle.expressions.specs.Entries.{entriesOf};
 ghost use Rattle.expressions.specs.Levels.{numberAt, truthAt};
 ghost use Rattle.expressions.specs.Meaning.{numberIn, truthIn};
@@ -388,8 +387,8 @@ pub fn settle(x: &[u8], t: usize, v: &[i64], known: &mut [u8], values: &mut [i64
     requires { ⌜ Ready (entriesOf (now x)) t (now v) ⌝ }
     requires { ⌜ countOf 8 (now x) ≤ 65536 ⌝ }
     requires { ⌜ (countOf 8 (now x) ≤ length (now known)) × (countOf 8 (now x) ≤ length (now values)) ⌝ }
-    ensures { λ _. ⌜ now (known .exit) ≡ tab (countOf 8 (now (x .entry))) (flagAt (entriesOf (now (x .entry))) (lookIn t (now (v .entry)))) ++ drop (countOf 8 (now (x .entry))) (now (known .entry)) ⌝ }
-    ensures { λ _. ⌜ now (values .exit) ≡ tab (countOf 8 (now (x .entry))) (contentAt (entriesOf (now (x .entry))) (lookIn t (now (v .entry)))) ++ drop (countOf 8 (now (x .entry))) (now (values .entry)) ⌝ }
+    ensures { λ _. ⌜ now (known .exit) ≡ fill (countOf 8 (now (x .entry))) (flagAt (entriesOf (now (x .entry))) (lookIn t (now (v .entry)))) (now (known .entry)) ⌝ }
+    ensures { λ _. ⌜ now (values .exit) ≡ fill (countOf 8 (now (x .entry))) (contentAt (entriesOf (now (x .entry))) (lookIn t (now (v .entry)))) (now (values .entry)) ⌝ }
 {
     let n = folder::count_of(8, x);
     let mut e = 0;

@@ -27,7 +27,7 @@ use Rattle.expand.proofs.Readings.{reads-is}
 -- ---- the code's test of a variable, by its parts
 pub variable-tested : (vars : ℕ) (nb bs known : List ℕ) (values state : List ℤ) (r s v : ℕ) {size e set : ℕ} {concrete label value : ℤ} {tracked same reading : Bool}
     → size ≡ nodeSize vars → e ≡ field (branchSize vars) bs r (1 + v) → concrete ≡ signedField size nb s (6 + v) → label ≡ signedField size nb s (6 + vars + v)
-    → set ≡ field size nb s 5 → tracked ≡ hasBit set v → value ≡ getD state e (pos 0) → same ≡ eqZ concrete value → reading ≡ readsAt known values e label
+    → set ≡ field (nodeSize vars) nb s 5 → tracked ≡ hasBit set v → value ≡ getD state e (pos 0) → same ≡ eqZ concrete value → reading ≡ readsAt known values e label
     → (same && implies tracked reading) ≡ variableFollows vars nb bs known values state r s v
 unfolding variableFollows
 variable-tested vars nb bs known values state r s v ps pe pc pl pt pb pv p q = cc

@@ -2,13 +2,12 @@
 // before, once for the node: `known` and `values` for its label, and `state` for its concrete state.
 ghost use mathlib.Core.Path.{_≡_};
 ghost use mathlib.Core.Bool.{true};
-ghost use mathlib.Core.List.{_++_};
 ghost use Prim.Native.Nat.{_+_, _<_, _≤_, _^_};
-ghost use lib.ListN.{length, drop};
+ghost use lib.ListN.{length};
 ghost use Rattle.folder.specs.Fields.{signed16};
 ghost use Rattle.folder.specs.Contents.{field};
 ghost use Rattle.folder.specs.Scan.{all};
-ghost use Rattle.folder.specs.Tab.{tab};
+ghost use Rattle.folder.specs.Tab.{fill};
 ghost use Rattle.model.specs.Limits.{mostExpressions};
 ghost use Rattle.model.specs.Model.{modelOf};
 ghost use Rattle.model.specs.Valid.{Valid};
@@ -28,7 +27,7 @@ const TARGET: usize = 3;
 pub fn load_row(nb: &[u8], vars: usize, n: usize, f: usize, row: &mut [i64])
     requires { ⌜ (vars ≤ 16) × (n ≤ 65536) × (f ≤ 65000) ⌝ }
     requires { ⌜ vars ≤ length (now row) ⌝ }
-    ensures { λ _. ⌜ now (row .exit) ≡ tab vars (λ v. signed16 (field (nodeSize vars) (now (nb .entry)) n (f + v))) ++ drop vars (now (row .entry)) ⌝ }
+    ensures { λ _. ⌜ now (row .exit) ≡ fill vars (λ v. signed16 (field (nodeSize vars) (now (nb .entry)) n (f + v))) (now (row .entry)) ⌝ }
 {
     let size = graph::node_size(vars);
     let mut v = 0;
@@ -194,7 +193,8 @@ pub fn b1(m: &[u8], g: &[u8], n: usize, at: usize, known: &[u8], values: &[i64])
     }
 }
 
-// Branch record r gives variable v what the node s has, and reads so in the label where s tracks v.
+// Branch record r gives variable v what the node s has, and reads so in the label where s tracks v. The set of what s tracks
+// is read once for all variables.
 fn variable_follows(
     vars: usize,
     nb: &[u8],
@@ -204,16 +204,17 @@ fn variable_follows(
     state: &[i64],
     r: usize,
     s: usize,
+    set: usize,
     v: usize,
 ) -> bool
     requires { ⌜ (vars ≤ 16) × (r ≤ 65536) × (s ≤ 65536) × (v < vars) ⌝ }
-    ensures { λ t. ⌜ t ≡ variableFollows vars (now (nb .entry)) (now (bs .entry)) (now (known .entry)) (now (values .entry)) (now (state .entry)) r s v ⌝ }
+    ensures { λ t. ⌜ (set ≡ field (nodeSize vars) (now (nb .entry)) s 5 → t ≡ variableFollows vars (now (nb .entry)) (now (bs .entry)) (now (known .entry)) (now (values .entry)) (now (state .entry)) r s v) ⌝ }
 {
     let size = graph::node_size(vars);
     let e = folder::field(2 + 2 * vars, bs, r, 1 + v);
     let concrete = folder::signed_field(size, nb, s, 6 + v);
     let label = folder::signed_field(size, nb, s, 6 + vars + v);
-    let tracked = expressions::has_bit(folder::field(size, nb, s, 5), v);
+    let tracked = expressions::has_bit(set, v);
     whole::equal(concrete, evaluate::value_at(state, e))
         & (!tracked | reads_at(known, values, e, label))
 }
@@ -231,9 +232,10 @@ fn branch_follows(
     requires { ⌜ (vars ≤ 16) × (r ≤ 65536) × (s ≤ 65536) ⌝ }
     ensures { λ t. ⌜ t ≡ branchFollows vars (now (nb .entry)) (now (bs .entry)) (now (known .entry)) (now (values .entry)) (now (state .entry)) r s ⌝ }
 {
+    let set = folder::field(graph::node_size(vars), nb, s, 5);
     let mut v = 0;
     while v < vars {
-        if variable_follows(vars, nb, bs, known, values, state, r, s, v) {
+        if variable_follows(vars, nb, bs, known, values, state, r, s, set, v) {
             v += 1;
         } else {
             return false;

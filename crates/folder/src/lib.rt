@@ -35,7 +35,11 @@ pub fn u16_at(s: &[u8], k: usize) -> usize
     requires { ⌜ k < 2 ^ 60 ⌝ }
     ensures { λ r. ⌜ (r ≡ u16 (now (s .entry)) k) × (r < 65536) ⌝ }
 {
-    byte_at(s, k) + byte_at(s, k + 1) * 256
+    if k + 1 < s.len() {
+        s[k] as usize + s[k + 1] as usize * 256
+    } else {
+        byte_at(s, k)
+    }
 }
 
 pub fn u32_at(s: &[u8], k: usize) -> usize

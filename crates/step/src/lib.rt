@@ -4,7 +4,7 @@ ghost use mathlib.Core.Path.{_≡_};
 ghost use mathlib.Core.List.{_++_};
 ghost use Prim.Native.Nat.{_<_, _≤_};
 ghost use lib.ListN.{length, drop};
-ghost use Rattle.folder.specs.Tab.{tab};
+ghost use Rattle.folder.specs.Tab.{fill};
 ghost use Rattle.folder.specs.Table.{outcome};
 ghost use Rattle.folder.specs.Scan.{firstBad};
 ghost use Rattle.expressions.specs.Meaning.{valueOf};
@@ -74,7 +74,7 @@ fn assigned_in(x: &[u8], b: &[u8], size: usize, r: usize, s: &[i64], v: usize) -
 fn put_next(x: &[u8], b: &[u8], size: usize, r: usize, s: &[i64], result: &mut [i16])
     requires { ⌜ Stepping (now x) (now b) size r (now s) ⌝ }
     requires { ⌜ length (now s) ≤ length (now result) ⌝ }
-    ensures { λ _. ⌜ now (result .exit) ≡ tab (length (now (s .entry))) (assignedIn (now (x .entry)) (now (b .entry)) size r (now (s .entry))) ++ drop (length (now (s .entry))) (now (result .entry)) ⌝ }
+    ensures { λ _. ⌜ now (result .exit) ≡ fill (length (now (s .entry))) (assignedIn (now (x .entry)) (now (b .entry)) size r (now (s .entry))) (now (result .entry)) ⌝ }
 {
     let n = s.len();
     let mut v = 0;

@@ -1,0 +1,173 @@
+//! How long the checker takes on the largest inputs, beside the plain calls of
+//! `tests/reference`, and how that grows:
+//!
+//! ```text
+//! cargo run --release --offline --example bench
+//! ```
+
+#[path = "../tests/generate/mod.rs"]
+mod generate;
+#[path = "../tests/reference/mod.rs"]
+mod reference;
+
+use generate::data::*;
+use generate::large::{deep_check, figures, Large};
+use generate::limits::plain;
+use std::hint::black_box;
+use std::time::{Duration, Instant};
+
+fn time(call: &mut impl FnMut()) -> Duration {
+    let start = Instant::now();
+    call();
+    start.elapsed()
+}
+
+/// The least time of so many runs of each, taken in turns.
+fn report(call: &str, runs: usize, mut run_proved: impl FnMut(), mut run_plain: impl FnMut()) {
+    let (mut proved, mut plain) = (Duration::MAX, Duration::MAX);
+    for _ in 0..runs {
+        proved = proved.min(time(&mut run_proved));
+        plain = plain.min(time(&mut run_plain));
+    }
+    let ratio = proved.as_secs_f64() / plain.as_secs_f64();
+    println!("  {call:<26} {proved:>12.3?} {plain:>12.3?} {ratio:>8.2}");
+}
+
+fn heading(name: &str, model: &[u8], graph: &[u8]) {
+    let sizes = format!("{name}: model {} bytes, graph {} bytes", model.len(), graph.len());
+    println!("{sizes}\n  {:<26} {:>12} {:>12} {:>8}", "", "proved", "plain Rust", "ratio");
+}
+
+fn model_check(model: &[u8], runs: usize) {
+    report(
+        "model check",
+        runs,
+        || laguipy::model_check(black_box(model)).expect("accepted"),
+        || reference::model_check(black_box(model)).expect("accepted"),
+    );
+}
+
+fn graph_check(call: &str, model: &[u8], graph: &[u8], runs: usize) {
+    report(
+        call,
+        runs,
+        || {
+            laguipy::graph_check(black_box(model), black_box(graph)).expect("accepted");
+        },
+        || {
+            reference::graph_check(black_box(model), black_box(graph)).expect("accepted");
+        },
+    );
+}
+
+fn figure(model: &[u8], graph: &[u8], h: usize, runs: usize) {
+    let [mut first, mut second] = [[0; 4_096]; 2];
+    let [mut plain_first, mut plain_second] = [[0; 4_096]; 2];
+    report(
+        &format!("figure, h = {h}"),
+        runs,
+        || {
+            let part = laguipy::figure(black_box(model), black_box(graph), h, &mut first, &mut second);
+            black_box(part.expect("accepted"));
+        },
+        || {
+            let (first, second) = (&mut plain_first, &mut plain_second);
+            reference::figure(black_box(model), black_box(graph), h, first, second).expect("accepted");
+        },
+    );
+    assert_eq!([first, second], [plain_first, plain_second]);
+}
+
+fn step(model: &[u8], state: &[i16], command: usize, branch: usize, runs: usize) {
+    let (mut result, mut plain) = ([0; 16], [0; 16]);
+    report(
+        "step",
+        runs,
+        || laguipy::step(black_box(model), state, command, branch, &mut result).expect("accepted"),
+        || reference::step(black_box(model), state, command, branch, &mut plain).expect("accepted"),
+    );
+    assert_eq!(result, plain);
+}
+
+/// A model on which the step's evaluators, which visit a part once per use, have
+/// the most to do: its one guard and all 16 assigned entries are of depth 12, an if
+/// or a comparison at each, and every part is the deepest there can be.
+fn shared_parts() -> Vec<u8> {
+    let mut model = plain(16, 4, 1, 1);
+    model.entries[3] = [1, 0, 0, 0];
+    let (mut number, mut truth) = (3, 1);
+    for _ in 2..=12 {
+        let next = model.entries.len() as u16;
+        model.entries.push([7, truth, number, number]);
+        model.entries.push([8, number, number, 0]);
+        (number, truth) = (next, next + 1);
+    }
+    model.commands[0][0] = truth;
+    model.branches[0][1..].fill(number);
+    model.bytes()
+}
+
+/// A graph of so many expanded nodes, each with an edge of 4 branches for each of
+/// so many commands.
+fn even(nodes: usize, commands: usize) -> (Vec<u8>, Vec<u8>) {
+    let model = plain(1, 3, commands, 4);
+    let nodes = (0..nodes as u16).map(|place| {
+        let mut node = NodeData::new(EXPANDED, CERTAIN, 1, &model.initial());
+        for command in 0..commands as u16 {
+            let branch = |k: u16| (place * 7 + command * 5 + k) % nodes as u16;
+            node.push_edge(command, (0..4).map(branch).collect());
+        }
+        node
+    });
+    let graph = GraphData { nodes: nodes.collect() };
+    (model.bytes(), graph.bytes())
+}
+
+/// How the graph check grows with the nodes and with the edges of each.
+fn growth() {
+    for (name, sizes) in [
+        ("nodes, 20 edges each", [(1_024, 20), (2_048, 20), (4_096, 20)]),
+        ("edges of each of 1,024 nodes", [(1_024, 16), (1_024, 32), (1_024, 64)]),
+    ] {
+        println!("{name}\n  {:<26} {:>12} {:>12} {:>8}", "graph check", "proved", "plain Rust", "ratio");
+        for (nodes, edges) in sizes {
+            let (model, graph) = even(nodes, edges);
+            graph_check(&format!("{nodes} nodes, {} edges", nodes * edges), &model, &graph, 30);
+        }
+    }
+}
+
+fn main() {
+    let deep = deep_check();
+    heading("largest graph, hostile model", &deep.model, &deep.graph);
+    model_check(&deep.model, 200);
+    step(&deep.model, &deep.state, deep.command, deep.branch, 200);
+    graph_check("graph check", &deep.model, &deep.graph, 20);
+
+    for changing in [false, true] {
+        let Large { name, model, graph, .. } = figures(changing);
+        heading(name, &model, &graph);
+        graph_check("graph check", &model, &graph, 30);
+        if changing {
+            figure(&model, &graph, 100, 3);
+            figure(&model, &graph, 1_000, 2);
+        }
+        figure(&model, &graph, 10_000, 1);
+    }
+
+    let model = shared_parts();
+    heading("parts shared the most", &model, &[]);
+    model_check(&model, 1_000);
+    step(&model, &[0; 16], 0, 0, 100);
+
+    let (model, graph) = generate::pedal();
+    let state = model.initial();
+    let (model, graph) = (model.bytes(), graph.bytes());
+    heading("pedal example", &model, &graph);
+    model_check(&model, 10_000);
+    graph_check("graph check", &model, &graph, 10_000);
+    figure(&model, &graph, 3, 10_000);
+    step(&model, &state, 0, 1, 10_000);
+
+    growth();
+}

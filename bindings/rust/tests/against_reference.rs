@@ -1,0 +1,205 @@
+//! The checker against the plain calls of `reference`: every call on every input,
+//! its answer and each row at exit.
+
+mod generate;
+mod reference;
+
+use generate::large::Large;
+use generate::limits::limits;
+use generate::*;
+use laguipy::Refusal;
+use std::ops::Range;
+
+/// How many inputs the test over seeds takes.
+fn cases() -> u64 {
+    std::env::var("LAGUIPY_CASES").ok().and_then(|count| count.parse().ok()).unwrap_or(200_000)
+}
+
+/// The number of each call's answer, 0 for acceptance.
+fn number<T>(answer: &Result<T, Refusal>) -> u32 {
+    answer.as_ref().err().map_or(0, |refusal| refusal.number)
+}
+
+/// Both rows before a figure call, of such lengths.
+fn rows_before([first, second]: [usize; 2]) -> [Vec<u32>; 2] {
+    [row_before(first, 1), row_before(second, 2)]
+}
+
+/// The three figure calls: the answers, both rows, and the part handed back.
+fn compare_figures(input: &Input) -> u32 {
+    let Input { name, model, graph, h, .. } = input;
+    let before = rows_before(input.rows);
+
+    let mut expected = before.clone();
+    let [first, second] = &mut expected;
+    let plain = reference::figure(model, graph, *h, first, second);
+    let answer = plain.map(|_| ());
+
+    assert_eq!(laguipy::figure_refusal(model, graph, *h, &before[0], &before[1]), answer, "{name}");
+
+    let mut rows = before.clone();
+    let [first, second] = &mut rows;
+    assert_eq!(laguipy::figure_rows(model, graph, *h, first, second), answer, "{name}");
+    assert_eq!(rows, expected, "{name}");
+
+    let mut rows = before;
+    let starts = [rows[0].as_ptr(), rows[1].as_ptr()];
+    let [first, second] = &mut rows;
+    match (laguipy::figure(model, graph, *h, first, second), plain) {
+        (Ok(part), Ok(place)) => {
+            let row = usize::from(place.second);
+            assert_eq!(part.as_ptr(), starts[row], "{name}");
+            assert_eq!(part, &expected[row][..place.nodes], "{name}");
+        }
+        (answer, plain) => assert_eq!(answer.err(), plain.err(), "{name}"),
+    }
+    assert_eq!(rows, expected, "{name}");
+    number(&answer)
+}
+
+fn compare_step(input: &Input) -> u32 {
+    let Input { name, model, state, command, branch, .. } = input;
+    let mut result = result_before(input.result);
+    let mut expected = result.clone();
+    let answer = laguipy::step(model, state, *command, *branch, &mut result);
+    assert_eq!(answer, reference::step(model, state, *command, *branch, &mut expected), "{name}");
+    assert_eq!(result, expected, "{name}");
+    number(&answer)
+}
+
+fn compare_part(model: &[u8], body: usize, record: usize) {
+    let part = laguipy::record_part(model, body, record);
+    let plain = reference::record_part(model, body, record);
+    assert_eq!((part.as_ptr(), part.len()), (plain.as_ptr(), plain.len()), "{body} {record}");
+}
+
+/// Compares every call on an input, and gives the numbers of the answers: model
+/// check, graph check, figure, step.
+fn compare(input: &Input) -> [u32; 4] {
+    let Input { name, model, graph, body, record, .. } = input;
+    let of_model = laguipy::model_check(model);
+    assert_eq!(of_model, reference::model_check(model), "{name}");
+    let of_graph = laguipy::graph_check(model, graph);
+    assert_eq!(of_graph, reference::graph_check(model, graph), "{name}");
+    for (body, record) in [(*body, *record), (*body, record + 1), (body + 1, 0), (usize::MAX, usize::MAX)] {
+        compare_part(model, body, record);
+    }
+    [number(&of_model), number(&of_graph), compare_figures(input), compare_step(input)]
+}
+
+/// Says which seed it was, where a comparison fails.
+struct Seed(u64);
+
+impl Drop for Seed {
+    fn drop(&mut self) {
+        if std::thread::panicking() {
+            eprintln!("seed {}", self.0);
+        }
+    }
+}
+
+/// How often each number was answered, by call.
+type Tally = [[usize; 4]; 34];
+
+fn compare_seeds(seeds: Range<u64>) -> Tally {
+    let mut tally = [[0; 4]; 34];
+    for seed in seeds {
+        let _said = Seed(seed);
+        let input = input(seed);
+        for (call, number) in compare(&input).into_iter().enumerate() {
+            tally[number as usize][call] += 1;
+        }
+    }
+    tally
+}
+
+#[test]
+fn random_inputs() {
+    let count = cases();
+    let threads = std::thread::available_parallelism().map_or(1, usize::from) as u64;
+    let mut tally = [[0; 4]; 34];
+    std::thread::scope(|scope| {
+        let part = |k: u64| k * count / threads..(k + 1) * count / threads;
+        let running: Vec<_> = (0..threads).map(|k| scope.spawn(move || compare_seeds(part(k)))).collect();
+        for thread in running {
+            let counts = thread.join().expect("every input is answered as the plain calls answer it");
+            for (sum, count) in tally.iter_mut().flatten().zip(counts.iter().flatten()) {
+                *sum += count;
+            }
+        }
+    });
+    println!("{count} inputs");
+    println!("number   model   graph  figure    step  (0 is acceptance)");
+    for (number, [model, graph, figure, step]) in tally.iter().enumerate() {
+        println!("{number:6} {model:7} {graph:7} {figure:7} {step:7}");
+    }
+    if count >= 5_000 {
+        for (number, counts) in tally.iter().enumerate() {
+            assert!(counts.iter().any(|&count| count > 0), "no input is refused with {number}");
+        }
+    }
+}
+
+#[test]
+fn inputs_at_the_limits() {
+    for limit in limits() {
+        let numbers = limit.answers.map(|answer| answer.map_or(0, |(number, _)| number));
+        assert_eq!(compare(&limit.input), numbers, "{}", limit.input.name);
+    }
+}
+
+#[test]
+fn any_byte_of_the_pedal_may_change() {
+    let (model, graph) = pedal();
+    let (model, graph) = (model.bytes(), graph.bytes());
+    for at in 0..model.len() + graph.len() {
+        for byte in [0, 1, 2, 3, 5, 9, 0x7f, 0x80, 0xfe, 0xff] {
+            let (mut model, mut graph) = (model.clone(), graph.clone());
+            match at.checked_sub(model.len()) {
+                None => model[at] = byte,
+                Some(at) => graph[at] = byte,
+            }
+            compare(&Input {
+                name: "pedal",
+                model,
+                graph,
+                h: 3,
+                rows: [6, 7],
+                state: vec![0, 0],
+                command: 0,
+                branch: 1,
+                result: 3,
+                body: at % 5,
+                record: at % 3,
+            });
+        }
+    }
+}
+
+#[test]
+fn pedal_cut_short() {
+    let (model, graph) = pedal();
+    let (model, graph) = (model.bytes(), graph.bytes());
+    for length in 0..model.len() {
+        assert_eq!(laguipy::model_check(&model[..length]), reference::model_check(&model[..length]));
+        compare_part(&model[..length], length % 6, length % 4);
+    }
+    for length in 0..graph.len() {
+        let plain = reference::graph_check(&model, &graph[..length]);
+        assert_eq!(laguipy::graph_check(&model, &graph[..length]), plain);
+    }
+}
+
+fn compare_large(large: Large, h: usize) {
+    let Large { name, model, graph, state, command, branch } = large;
+    let (rows, result) = ([4_096, 4_097], 17);
+    let input = Input { name, model, graph, h, rows, state, command, branch, result, body: 4, record: 1_023 };
+    assert_eq!(compare(&input), [0; 4], "{name}");
+}
+
+#[test]
+fn largest_inputs() {
+    compare_large(large::deep_check(), 7);
+    compare_large(large::figures(true), 40);
+    compare_large(large::figures(false), 10_000);
+}

@@ -1,0 +1,12 @@
+use mathlib.Core.Path.{ap, _∙_}
+use Rattle.folder.specs.Table.{numberOf, placeOf}
+use borrow.Author.Needs.{needs}
+use Rattle.laguipy_c.proofs.laguipy_figure_refusal.Statement.{statement}
+use Rattle.laguipy_c.proofs.laguipy_figure_refusal.Tie as tie
+
+returns : tie.Need-returns
+returns c = (c .number-of .ensures ∙ ap numberOf (c .before .before .figure-refusal .ensures), c .before .place-of .ensures ∙ ap placeOf (c .before .before .figure-refusal .ensures))
+
+pub laguipy-figure-refusal-spec : {M : Type 1} → statement M
+laguipy-figure-refusal-spec =
+    tie.close (tie.spec (λ c κs. search needs) (λ c κs. search needs) (λ c κs. search needs) returns)

@@ -1,0 +1,12 @@
+use mathlib.Core.Path.{ap, _∙_}
+use Rattle.folder.specs.Table.{numberOf, placeOf}
+use borrow.Author.Needs.{needs}
+use Rattle.laguipy_c.proofs.laguipy_model_check.Statement.{statement}
+use Rattle.laguipy_c.proofs.laguipy_model_check.Tie as tie
+
+returns : tie.Need-returns
+returns c = (c .number-of .ensures ∙ ap numberOf (c .before .before .model-check .ensures), c .before .place-of .ensures ∙ ap placeOf (c .before .before .model-check .ensures))
+
+pub laguipy-model-check-spec : {M : Type 1} → statement M
+laguipy-model-check-spec =
+    tie.close (tie.spec (λ c κs. search needs) (λ c κs. search needs) (λ c κs. search needs) returns)

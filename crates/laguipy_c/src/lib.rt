@@ -1,0 +1,224 @@
+// The calls of `laguipy` for C and for Rust, in a static library; include/laguipy.h declares them. A slice crosses as
+// pointer and length. An enum or a part of a slice does not: each call returns the number of its answer, 0 for
+// acceptance, and writes what comes with it into numbers that the caller lends, which are written on every call.
+use folder::Outcome;
+use graph::GraphAnswer;
+ghost use mathlib.Core.Path.{_≡_};
+ghost use Prim.Native.Nat.{_<_};
+ghost use Rattle.folder.specs.Pick.{pick};
+ghost use Rattle.folder.specs.Table.{numberOf, placeOf, outcome};
+ghost use Rattle.folder.specs.declared.Outcome.the-variants.{Accepted};
+ghost use Rattle.model.specs.Table.{folderRows, modelOutcome};
+ghost use Rattle.model.specs.View.{viewStart};
+ghost use Rattle.model.specs.Step.{stepOutcome, stepRow};
+ghost use Rattle.graph.specs.Table.{graphAnswer};
+ghost use Rattle.graph.specs.Figures.{figureOutcome, inFirst, firstRow, secondRow};
+ghost use Rattle.laguipy_c.specs.Answers.{answerNumber, answerPlace, answerValues, viewPlace, figurePlace};
+
+fn number_of(o: Outcome) -> usize
+    ensures { λ r. ⌜ r ≡ numberOf o ⌝ }
+{
+    match o {
+        Outcome::Accepted => 0,
+        Outcome::Refused(f) => f.number,
+    }
+}
+
+fn place_of(o: Outcome) -> usize
+    ensures { λ r. ⌜ r ≡ placeOf o ⌝ }
+{
+    match o {
+        Outcome::Accepted => 0,
+        Outcome::Refused(f) => f.place,
+    }
+}
+
+fn answer_number(a: GraphAnswer) -> usize
+    ensures { λ r. ⌜ r ≡ answerNumber a ⌝ }
+{
+    match a {
+        GraphAnswer::Accepted(_) => 0,
+        GraphAnswer::Refused(f) => f.number,
+    }
+}
+
+fn answer_place(a: GraphAnswer) -> usize
+    ensures { λ r. ⌜ r ≡ answerPlace a ⌝ }
+{
+    match a {
+        GraphAnswer::Accepted(_) => 0,
+        GraphAnswer::Refused(f) => f.place,
+    }
+}
+
+fn answer_values(a: GraphAnswer) -> [usize; 5]
+    ensures { λ r. ⌜ r ≡ answerValues a ⌝ }
+{
+    match a {
+        GraphAnswer::Accepted(s) => [s.root, s.waiting, s.expanded, s.covered, s.target],
+        GraphAnswer::Refused(_) => [0, 0, 0, 0, 0],
+    }
+}
+
+// The model check.
+#[no_mangle]
+pub extern "C" fn laguipy_model_check(model: &[u8], place: &mut usize) -> usize
+    ensures { λ r. ⌜ r ≡ numberOf (modelOutcome (now (model .entry))) ⌝ }
+    ensures { λ _. ⌜ now (place .exit) ≡ placeOf (modelOutcome (now (model .entry))) ⌝ }
+{
+    let o = laguipy::model_check(model);
+    *place = place_of(o);
+    number_of(o)
+}
+
+// Where the view's part starts, in a folder that keeps rows 1 to 3.
+fn record_start(m: &[u8], e: usize, i: usize) -> usize
+    requires { ⌜ outcome (folderRows (now m)) ≡ Accepted ⌝ }
+    requires { ⌜ e < 5 ⌝ }
+    ensures { λ r. ⌜ r ≡ viewStart (now (m .entry)) e i ⌝ }
+{
+    if i < model::record_count(m, e) {
+        folder::start_of(m, e) + model::record_size(m, e) * i
+    } else {
+        0
+    }
+}
+
+fn view_start(m: &[u8], e: usize, i: usize) -> usize
+    ensures { λ r. ⌜ r ≡ viewStart (now (m .entry)) e i ⌝ }
+{
+    if e < 5 {
+        let o = model::check_folder(m);
+        match o {
+            Outcome::Accepted => record_start(m, e, i),
+            Outcome::Refused(_) => 0,
+        }
+    } else {
+        0
+    }
+}
+
+// The view: record i of body e, by its start in the folder and its length.
+#[no_mangle]
+pub extern "C" fn laguipy_record_part(model: &[u8], e: usize, i: usize, part: &mut [usize; 2])
+    ensures { λ _. ⌜ now (part .exit) ≡ viewPlace (now (model .entry)) e i ⌝ }
+{
+    let start = view_start(model, e, i);
+    let view = laguipy::record_part(model, e, i);
+    *part = [start, view.len()];
+}
+
+// The graph check.
+#[no_mangle]
+pub extern "C" fn laguipy_graph_check(
+    model: &[u8],
+    graph: &[u8],
+    place: &mut usize,
+    values: &mut [usize; 5],
+) -> usize
+    ensures { λ r. ⌜ r ≡ answerNumber (graphAnswer (now (model .entry)) (now (graph .entry))) ⌝ }
+    ensures { λ _. ⌜ now (place .exit) ≡ answerPlace (graphAnswer (now (model .entry)) (now (graph .entry))) ⌝ }
+    ensures { λ _. ⌜ now (values .exit) ≡ answerValues (graphAnswer (now (model .entry)) (now (graph .entry))) ⌝ }
+{
+    let a = laguipy::graph_check(model, graph);
+    *place = answer_place(a);
+    *values = answer_values(a);
+    answer_number(a)
+}
+
+// What the figure call on these arguments answers; nothing is written to the rows.
+#[no_mangle]
+pub extern "C" fn laguipy_figure_refusal(
+    model: &[u8],
+    graph: &[u8],
+    h: usize,
+    first: &[u32],
+    second: &[u32],
+    place: &mut usize,
+) -> usize
+    ensures { λ r. ⌜ r ≡ numberOf (figureOutcome (now (model .entry)) (now (graph .entry)) h (now (first .entry)) (now (second .entry))) ⌝ }
+    ensures { λ _. ⌜ now (place .exit) ≡ placeOf (figureOutcome (now (model .entry)) (now (graph .entry)) h (now (first .entry)) (now (second .entry))) ⌝ }
+{
+    let o = laguipy::figure_refusal(model, graph, h, first, second);
+    *place = place_of(o);
+    number_of(o)
+}
+
+// The figure call, by its answer.
+#[no_mangle]
+pub extern "C" fn laguipy_figure_rows(
+    model: &[u8],
+    graph: &[u8],
+    h: usize,
+    first: &mut [u32],
+    second: &mut [u32],
+    place: &mut usize,
+) -> usize
+    ensures { λ r. ⌜ r ≡ numberOf (figureOutcome (now (model .entry)) (now (graph .entry)) h (now (first .entry)) (now (second .entry))) ⌝ }
+    ensures { λ _. ⌜ now (first .exit) ≡ firstRow (now (model .entry)) (now (graph .entry)) h (now (first .entry)) (now (second .entry)) ⌝ }
+    ensures { λ _. ⌜ now (second .exit) ≡ secondRow (now (model .entry)) (now (graph .entry)) h (now (first .entry)) (now (second .entry)) ⌝ }
+    ensures { λ _. ⌜ now (place .exit) ≡ placeOf (figureOutcome (now (model .entry)) (now (graph .entry)) h (now (first .entry)) (now (second .entry))) ⌝ }
+{
+    let o = laguipy::figure_rows(model, graph, h, first, second);
+    *place = place_of(o);
+    number_of(o)
+}
+
+// The row that holds round h: 0 first, 1 second.
+fn row_of(h: usize) -> usize
+    ensures { λ r. ⌜ r ≡ pick (inFirst h) 0 1 ⌝ }
+{
+    if h % 2 == 0 { 0 } else { 1 }
+}
+
+// The figure call, by where its figures stand.
+#[no_mangle]
+pub extern "C" fn laguipy_figure(
+    model: &[u8],
+    graph: &[u8],
+    h: usize,
+    first: &mut [u32],
+    second: &mut [u32],
+    place: &mut usize,
+    part: &mut [usize; 2],
+) -> usize
+    ensures { λ r. ⌜ r ≡ numberOf (figureOutcome (now (model .entry)) (now (graph .entry)) h (now (first .entry)) (now (second .entry))) ⌝ }
+    ensures { λ _. ⌜ now (first .exit) ≡ firstRow (now (model .entry)) (now (graph .entry)) h (now (first .entry)) (now (second .entry)) ⌝ }
+    ensures { λ _. ⌜ now (second .exit) ≡ secondRow (now (model .entry)) (now (graph .entry)) h (now (first .entry)) (now (second .entry)) ⌝ }
+    ensures { λ _. ⌜ now (place .exit) ≡ placeOf (figureOutcome (now (model .entry)) (now (graph .entry)) h (now (first .entry)) (now (second .entry))) ⌝ }
+    ensures { λ _. ⌜ now (part .exit) ≡ figurePlace (now (model .entry)) (now (graph .entry)) h (now (first .entry)) (now (second .entry)) ⌝ }
+{
+    let o = laguipy::figure_rows(model, graph, h, first, second);
+    match o {
+        Outcome::Accepted => {
+            let count = graph::node_count(model, graph);
+            *place = 0;
+            *part = [row_of(h), count];
+            0
+        }
+        Outcome::Refused(f) => {
+            *place = f.place;
+            *part = [0, 0];
+            f.number
+        }
+    }
+}
+
+// The step of a state by a branch of a command, into a lent row.
+#[no_mangle]
+pub extern "C" fn laguipy_step(
+    model: &[u8],
+    state: &[i16],
+    command: usize,
+    branch: usize,
+    result: &mut [i16],
+    place: &mut usize,
+) -> usize
+    ensures { λ r. ⌜ r ≡ numberOf (stepOutcome (now (model .entry)) (now (state .entry)) command branch (now (result .entry))) ⌝ }
+    ensures { λ _. ⌜ now (result .exit) ≡ stepRow (now (model .entry)) (now (state .entry)) command branch (now (result .entry)) ⌝ }
+    ensures { λ _. ⌜ now (place .exit) ≡ placeOf (stepOutcome (now (model .entry)) (now (state .entry)) command branch (now (result .entry))) ⌝ }
+{
+    let o = laguipy::step(model, state, command, branch, result);
+    *place = place_of(o);
+    number_of(o)
+}
