@@ -10,8 +10,8 @@ use Rattle.folder.specs.Contents.{body, countOf, field}
 use Rattle.expressions.specs.Entries.{entriesOf}
 use Rattle.expressions.specs.Ranges.{boundIn}
 use Rattle.model.specs.Layout.{variableCount, branchSize, recordSize, recordCount}
-use Rattle.model.specs.Model.{modelOf, bound, firstRecord}
-use Rattle.model.specs.Bodies.{modelIn, staysIn}
+use Rattle.model.specs.Model.{modelOf, bound, firstRecord, modelIn}
+use Rattle.model.specs.Bodies.{staysIn}
 use Rattle.model.specs.Rules.{variableFits, termsFit, commandFits, recordsAddUp, assignedFits, branchFits, weightsTotal}
 
 module _ (m : List ℕ) {t : Bool} where

@@ -10,7 +10,7 @@ use Rattle.folder.specs.Contents.{body, countOf, field, signedField}
 use Rattle.expressions.specs.Entries.{Entries, entriesOf}
 use Rattle.expressions.specs.Ranges.{span}
 use Rattle.expressions.specs.declared.Range.{Range}
-use Rattle.model.specs.Layout.{variableCount, branchSize}
+use Rattle.model.specs.Layout.{branchSize}
 
 pub record Model : Type 0 where
   -- Terms: D, and the entry of the target truth.
@@ -32,22 +32,26 @@ pub record Model : Type 0 where
   pub weight : ℕ → ℕ
   pub assigned : ℕ → ℕ → ℕ
 
-abbrev pub modelOf : List ℕ → Model
-modelOf m = record {
-  total = field 4 (body m 0) 0 0;
-  target = field 4 (body m 0) 0 1;
-  variables = variableCount m;
-  low = λ v. signedField 6 (body m 1) v 0;
-  high = λ v. signedField 6 (body m 1) v 1;
-  initial = λ v. signedField 6 (body m 1) v 2;
-  entries = entriesOf (body m 2);
-  commands = countOf 4 (body m 3);
-  guard = λ c. field 4 (body m 3) c 0;
-  branches = λ c. field 4 (body m 3) c 1;
-  records = countOf (branchSize (variableCount m)) (body m 4);
-  weight = λ r. field (branchSize (variableCount m)) (body m 4) r 0;
-  assigned = λ r v. field (branchSize (variableCount m)) (body m 4) r (1 + v);
+-- The model that five bodies hold. A function that has only some of them is stated with the others empty.
+abbrev pub modelIn : List ℕ → List ℕ → List ℕ → List ℕ → List ℕ → Model
+modelIn terms variables expressions commands branches = record {
+  total = field 4 terms 0 0;
+  target = field 4 terms 0 1;
+  variables = countOf 6 variables;
+  low = λ v. signedField 6 variables v 0;
+  high = λ v. signedField 6 variables v 1;
+  initial = λ v. signedField 6 variables v 2;
+  entries = entriesOf expressions;
+  commands = countOf 4 commands;
+  guard = λ c. field 4 commands c 0;
+  branches = λ c. field 4 commands c 1;
+  records = countOf (branchSize (countOf 6 variables)) branches;
+  weight = λ r. field (branchSize (countOf 6 variables)) branches r 0;
+  assigned = λ r v. field (branchSize (countOf 6 variables)) branches r (1 + v);
 }
+
+abbrev pub modelOf : List ℕ → Model
+modelOf m = modelIn (body m 0) (body m 1) (body m 2) (body m 3) (body m 4)
 
 module _ (M : Model) where
   -- The range of variable v; past the last, 0 to 0.

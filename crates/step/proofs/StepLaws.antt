@@ -25,8 +25,7 @@ use Rattle.expressions.specs.Meaning.{State, valueOf, truthIn}
 use Rattle.expressions.specs.Right.{IsTruth}
 use Rattle.evaluate.specs.Formed.{Grounded}
 use Rattle.model.specs.Layout.{variableCount, branchSize}
-use Rattle.model.specs.Model.{Model, modelOf, bound, firstRecord}
-use Rattle.model.specs.Bodies.{modelIn}
+use Rattle.model.specs.Model.{Model, modelOf, bound, firstRecord, modelIn}
 use Rattle.model.specs.Chances.{InRange, next}
 use Rattle.model.specs.Table.{modelRows, modelOutcome}
 use Rattle.model.specs.Valid.{Valid}

@@ -1,9 +1,9 @@
+use Rattle.model.specs.Model.{modelIn}
 use Prim.Native.Nat.{_-_}
 use mathlib.Core.List.{[]}
 use native.Mathlib.Omega.{arith}
 use borrow.Author.Needs.{needs}
 use Rattle.folder.proofs.ScanLaws.{Scanned, scan-start, scan-next, scan-found, scan-over}
-use Rattle.model.specs.Bodies.{modelIn}
 use Rattle.model.specs.Rules.{assignedFits}
 use Rattle.model.proofs.BodyLaws.{assigned-in}
 use Rattle.model.proofs.first_bad_assigned.Statement.{statement}
