@@ -1,0 +1,25 @@
+use Prim.Native.Nat.{_≤_, _-_}
+use borrow.Author.Needs.{needs}
+use Rattle.cases.proofs.varied.models.Statement.{statement}
+use Rattle.cases.proofs.varied.models.Tie as tie
+
+abbrev Inv-loop : tie.InvT-loop
+Inv-loop t₀ i₀ t i = i ≤ 712
+
+abbrev μ-loop : tie.MeasureT-loop
+μ-loop t₀ i₀ t i = 712 - i
+
+pub models-spec : {M : Type 1} → statement M
+models-spec =
+    tie.close
+    (tie.spec
+    Inv-loop
+    μ-loop
+    (λ c. search needs)
+    (λ c. search needs)
+    (λ c κs. search needs)
+    (λ c κs. search needs)
+    (λ c. search needs)
+    (λ c. search needs)
+    (λ c. search needs)
+    (λ c. search needs))

@@ -1,0 +1,15 @@
+use Prim.Native.Nat.{_≤_, _-_}
+use borrow.Author.Needs.{needs}
+use Rattle.trials.proofs.tally.say_all_seen.Statement.{statement}
+use Rattle.trials.proofs.tally.say_all_seen.Tie as tie
+
+abbrev Inv-loop : tie.InvT-loop
+Inv-loop t i₀ i = i ≤ 34
+
+abbrev μ-loop : tie.MeasureT-loop
+μ-loop t i₀ i = 34 - i
+
+pub say-all-seen-spec : {M : Type 1} → statement M
+say-all-seen-spec =
+    tie.close
+    (tie.spec Inv-loop μ-loop (λ c. search needs) (λ c κs. search needs) (λ c. search needs) (λ c. search needs) (λ c. search needs) (λ c. search needs))

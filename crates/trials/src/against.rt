@@ -1,0 +1,124 @@
+// The library's steps, figures and root values against the solver's.
+use crate::tally::BOUNDS;
+use crate::tally::STEPS;
+use crate::tally::TOO_BIG;
+use crate::tally::count;
+use crate::tally::hold;
+use crate::tally::judge;
+use crate::tally::number_of;
+use solver::Trial;
+use solver::ZERO;
+use solver::add;
+use solver::sub;
+
+// The rows beyond a result, and a refused step's, keep this.
+const KEPT: i16 = 7;
+
+fn small(x: usize) -> i16 {
+    if x < ZERO {
+        let d = ZERO - x;
+        if d < 32768 { !((d - 1) as i16) } else { -32768 }
+    } else {
+        let d = x - ZERO;
+        if d < 32768 { d as i16 } else { 32767 }
+    }
+}
+
+// The first n values as the library takes them.
+fn row_of(s: &[usize; 16], n: usize) -> [i16; 16] {
+    let mut row = [KEPT; 16];
+    let mut i = 0;
+    while i < 16 {
+        if i < n {
+            row[i] = small(s[i]);
+        }
+        i += 1;
+    }
+    row
+}
+
+fn same_rows(a: &[i16; 16], b: &[i16; 16]) -> bool {
+    let mut i = 0;
+    while i < 16 {
+        if a[i] != b[i] {
+            return false;
+        }
+        i += 1;
+    }
+    true
+}
+
+fn first_values(s: &[i16], n: usize) -> &[i16] {
+    if n <= s.len() { &s[0..n] } else { s }
+}
+
+fn due_row(m: &[u8], s: &[usize; 16], c: usize, b: usize, accepted: bool) -> [i16; 16] {
+    if accepted {
+        row_of(&solver::next(m, s, c, b), solver::variables(m))
+    } else {
+        [KEPT; 16]
+    }
+}
+
+// The step of the first n values of a state: the answer, the new state, and the rest of the row.
+pub fn step_case(t: &mut [usize; 40], m: &[u8], s: &[usize; 16], n: usize, c: usize, b: usize) {
+    let due = solver::step_verdict(m, s, n, 16, c, b);
+    let state = row_of(s, 16);
+    let mut row = [KEPT; 16];
+    let o = laguipy::step(m, first_values(&state, n), c, b, &mut row);
+    count(t, STEPS);
+    judge(t, b" step", o, due.number, due.place);
+    let wanted = due_row(m, s, c, b, due.number == 0);
+    hold(t, b"state after a step", c, same_rows(&row, &wanted));
+}
+
+// A state of the pedal model, at j of a box that goes one past each range.
+fn box_state(j: usize) -> [usize; 16] {
+    let mut s = [ZERO; 16];
+    s[0] = sub(add(ZERO, j % 6), 1);
+    s[1] = sub(add(ZERO, j / 6 % 4), 1);
+    s
+}
+
+// From every state of the box, by commands and branches to one past the last.
+pub fn box_steps(t: &mut [usize; 40], m: &[u8]) {
+    let mut j = 0;
+    while j < 216 {
+        step_case(t, m, &box_state(j), 2, j / 24 % 3, j / 72);
+        j += 1;
+    }
+}
+
+fn bound_case(t: &mut [usize; 40], name: &[u8], h: usize, r: Trial) {
+    match r {
+        Trial::TooBig => count(t, TOO_BIG),
+        Trial::Holds => count(t, BOUNDS),
+        Trial::Broken => hold(t, name, h, false),
+    }
+}
+
+// Round h of an accepted graph: each figure at least the best chance, and at most h units more.
+fn figures_case(t: &mut [usize; 40], m: &[u8], g: &[u8], h: usize) {
+    let mut first = [0u32; 8];
+    let mut second = [0u32; 8];
+    let o = laguipy::figure_refusal(m, g, h, &first, &second);
+    count(t, number_of(o));
+    if number_of(o) == 0 {
+        let row = laguipy::figure(m, g, h, &mut first, &mut second);
+        bound_case(t, b"figures within", h, solver::try_figures(m, g, h, row));
+    }
+}
+
+fn both_bounds(t: &mut [usize; 40], m: &[u8], g: &[u8], h: usize) {
+    figures_case(t, m, g, h);
+    bound_case(t, b"root within", h, solver::try_root(m, g, h));
+}
+
+// Bounds on an accepted graph, within 0 to 4 steps.
+pub fn bounds(t: &mut [usize; 40], m: &[u8], g: &[u8]) {
+    let mut h = 0;
+    while h < 5 {
+        both_bounds(t, m, g, h);
+        h += 1;
+    }
+}
