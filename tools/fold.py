@@ -11,6 +11,13 @@ import sys
 
 CERTAINTY = 1_000_000_000  # S, in units
 
+# What the rules allow, where a field has room for more.
+BOUND = (-30_000, 30_000)
+WEIGHT = (1, 65_535)
+BRANCHES = (1, 16)
+VALUE = (0, CERTAINTY)
+NODE = (0, 4_095)
+
 MODEL_BODIES = ("terms", "variables", "expressions", "commands", "branches")
 GRAPH_BODIES = ("nodes", "edges")
 KINDS = ("waiting", "expanded", "covered", "target")
@@ -22,10 +29,11 @@ Writes model and graph folders from text, and prints folders back as text.
   fold.py graph IN.graph MODEL.fold OUT.fold    text to a graph folder of that model
   fold.py show MODEL.fold                       a model folder as text
   fold.py show GRAPH.fold MODEL.fold            a graph folder as text
+    --names a,d                                 the variables' names, in order; else v0, v1 and so on
+    --entries                                   list a model's entries with their numbers in any case
 
 What `show` prints gives the same bytes again. It stands on a right table of contents and on nothing else: a folder
-that breaks a later rule is shown too. A folder has no names, so its variables are v0, v1 and so on, unless --names
-says otherwise. Comments give the numbers that a refusal returns as its place.
+that breaks a later rule is shown too. Comments give the numbers that a refusal returns as its place.
 
 THE MODEL
 
@@ -47,7 +55,8 @@ THE MODEL
   let near = a + 1                a name for an expression
   entries a, d, 2, a < 2          give these expressions their entries now, in this order
 
-An expression becomes one entry for each of its operations, parts first; one that is there already is shared.
+An expression becomes one entry for each of its operations, parts first; one that is there already is shared. A line
+that ends in a comma goes on in the next.
 
 THE GRAPH
 
@@ -61,12 +70,12 @@ THE GRAPH
   node 4 target tracks a state a=2 d=0
 
   state      the concrete label, one value for each variable
-  tracks     the abstract label; `a` alone takes its value from the state, `a=2` says it
+  tracks     the abstract label, or none; `a` alone takes its value from the state, `a=2` says it
   value      units; S is certainty, 1000000000. A waiting or target node may leave it out: S
 
 BOTH
 
-  # starts a comment. A line that ends in a comma goes on in the next. 10_000 is 10000.
+  # starts a comment. 10_000 is 10000. Numbers are whole.
 
 RAW, for folders that are wrong on purpose. Whatever fits its field is written and left to the checker; what would
 be a slip of the pen is refused with its line, unless it is said in one of these ways.
@@ -98,9 +107,16 @@ class Trouble(Exception):
 # ---- fields and folders
 
 
-def unsigned(value, size, what):
-    if not 0 <= value < 256**size:
-        raise Trouble(f"{what} is {value}: it must be 0 to {256**size - 1} to fit its {size} bytes")
+def within(value, field, what, rule=None):
+    """Refuses what the field has no room for, and names what the rule allows, if there is one."""
+    if not field[0] <= value <= field[1]:
+        low, high = rule or field
+        room = "" if rule else " to fit its field"
+        raise Trouble(f"{what} is {value}: it must be {low} to {high}{room}")
+
+
+def unsigned(value, size, what, rule=None):
+    within(value, (0, 256**size - 1), what, rule)
     return value.to_bytes(size, "little")
 
 
@@ -108,9 +124,8 @@ def two(value, what):
     return unsigned(value, 2, what)
 
 
-def signed(value, what):
-    if not -32768 <= value <= 32767:
-        raise Trouble(f"{what} is {value}: it must be -32768 to 32767 to fit its 2 bytes")
+def signed(value, what, rule=None):
+    within(value, (-32768, 32767), what, rule)
     return struct.pack("<h", value)
 
 
@@ -164,8 +179,29 @@ def counted(count, word):
 
 # ---- lines and tokens
 
-TOKEN = re.compile(r"\s*(?:([0-9][0-9_]*)|([A-Za-z_][A-Za-z0-9_]*)|(\.\.|<=|>=|!=|[-+*=<>(),:@']))")
+WORD = "[0-9][0-9_]*|[A-Za-z_][A-Za-z0-9_]*"
+SLIP = "==|&&?|[|]{1,2}|[!./%\u2264\u2265\u2260]"
+TOKEN = re.compile(rf"\s*(?:{WORD}|\.\.|<=|>=|!=|{SLIP}|[-+*=<>(),:@'])")
 NAME = re.compile(r"[A-Za-z_][A-Za-z0-9_]*\Z")
+
+# What other notations have, and what to write here.
+CONJUNCTION = "write 'and', or a comma between new values"
+FRACTION = "numbers are whole; weights are out of 'total', values are units of S"
+SLIPS = {
+    "==": "write '='",
+    "&&": CONJUNCTION,
+    "&": CONJUNCTION,
+    "||": "write 'or'",
+    "|": "write 'or'",
+    "!": "write 'not'",
+    ".": FRACTION,
+    "/": FRACTION,
+    "%": FRACTION,
+    "\u2264": "write '<='",
+    "\u2265": "write '>='",
+    "\u2260": "write '!='",
+}
+OTHER_CALLS = {"min": "smaller", "max": "larger"}
 
 CLAUSES = {"by", "value", "tracks", "state", "edges", "set", "label"}
 RESERVED = (
@@ -176,20 +212,42 @@ RESERVED = (
 
 
 class Line:
-    """The tokens of a line, read from left to right."""
+    """The tokens of a line, read from left to right. One that goes on comes as several pieces, (number, text)."""
 
-    def __init__(self, number, text):
-        self.number = number
-        self.text = text
+    def __init__(self, pieces):
+        self.text = pieces[0][1]
         self.tokens = []
+        self.numbers = []  # the line of each token
         self.at = 0
-        text, at = text.rstrip(), 0
+        for number, text in pieces:
+            self.split(number, text.rstrip())
+
+    def split(self, number, text):
+        at = 0
         while at < len(text):
             match = TOKEN.match(text, at)
             if match is None:
                 raise Trouble(f"unexpected character {text[at:].lstrip()[0]!r}", number)
-            self.tokens.append(match.group().strip())
+            token = match.group().strip()
+            if token in SLIPS:
+                raise Trouble(f"{token!r} is not known: {SLIPS[token]}", number)
+            self.tokens.append(token)
+            self.numbers.append(number)
             at = match.end()
+
+    @property
+    def number(self):
+        return self.numbers[min(self.at, len(self.numbers) - 1)]
+
+    def joined(self, at):
+        """Says so where the token there is the first of a line that continues another."""
+        if 0 < at < len(self.tokens) and self.numbers[at - 1] != self.numbers[at]:
+            return f"; line {self.numbers[at - 1]} ends in a comma, so this line continues it"
+        return ""
+
+    def next(self):
+        """The token after the one that is next."""
+        return self.tokens[self.at + 1] if self.at + 1 < len(self.tokens) else ""
 
     def peek(self):
         return self.tokens[self.at] if self.at < len(self.tokens) else ""
@@ -205,7 +263,7 @@ class Line:
 
     def fail(self, wanted):
         found = f"and here is {self.peek()!r}" if self.peek() else "and the line ends"
-        raise Trouble(f"{wanted} is wanted, {found}", self.number)
+        raise Trouble(f"{wanted} is wanted, {found}{self.joined(self.at)}", self.number)
 
     def expect(self, token):
         if not self.has(token):
@@ -228,15 +286,15 @@ class Line:
             raise Trouble(f"{what} is too large", self.number)
         return -int(digits) if minus else int(digits)
 
-    def field(self, what, size=2):
+    def field(self, what, size=2, rule=None):
         """An unsigned field."""
         value = self.number_here(what)
-        unsigned(value, size, what)
+        unsigned(value, size, what, rule)
         return value
 
-    def signed_field(self, what):
+    def signed_field(self, what, rule=None):
         value = self.number_here(what)
-        signed(value, what)
+        signed(value, what, rule)
         return value
 
     def at_name(self):
@@ -257,20 +315,18 @@ class Line:
 
 
 def lines_of(text):
-    """The lines that say something, as (number, text), without comments; one that ends in a comma goes on."""
-    held, start = "", 0
-    for number, line in enumerate(text.split("\n"), 1):
+    """The lines that say something, without comments, each as its pieces; one that ends in a comma goes on."""
+    held = []
+    for number, line in enumerate(text.replace("\u2212", "-").split("\n"), 1):
         line = line.split("#", 1)[0].rstrip()
         if not line.strip():
             continue
-        if not held:
-            start = number
-        held += line
-        if not held.endswith(","):
-            yield start, held
-            held = ""
+        held.append((number, line))
+        if not line.endswith(","):
+            yield held
+            held = []
     if held:
-        raise Trouble("the text ends after a comma", start)
+        raise Trouble("the text ends after a comma", held[-1][0])
 
 
 class Reader:
@@ -284,23 +340,22 @@ class Reader:
         self.words = words
 
     def read(self, text):
-        for number, content in lines_of(text):
-            word = content.split(None, 1)[0]
+        for pieces in lines_of(text):
+            line, words = None, " ".join(text for _, text in pieces).split()
             try:
-                if word == "bytes":
-                    self.bytes(content.split()[1:])
+                if words[0] == "bytes":
+                    self.bytes(words[1:])
                     continue
-                line = Line(number, content)
-                if word == "contents":
-                    line.take()
+                line = Line(pieces)
+                if line.has("contents"):
                     self.entry(line)
                 else:
                     self.line(line)
                 line.end()
-            except Trouble as trouble:
-                raise Trouble(trouble.message, trouble.line or number) from None
-            except RecursionError:
-                raise Trouble("the expression is nested too deep", number) from None
+            except (Trouble, RecursionError) as error:
+                trouble = error if isinstance(error, Trouble) else Trouble("the expression is nested too deep")
+                number = trouble.line or (line.number if line else pieces[0][0])
+                raise Trouble(trouble.message, number) from None
 
     def bytes(self, words):
         if not words or words[0] not in self.extra:
@@ -401,6 +456,8 @@ class Expressions:
         operation, turned = COMPARISONS[sign]
         a = self.of_sort(left, NUMBER, f"the left side of {sign!r}")
         b = self.of_sort(self.sum(), NUMBER, f"the right side of {sign!r}")
+        if self.line.peek() in COMPARISONS:
+            raise Trouble("comparisons do not chain: join them with 'and', as in 0 <= x and x <= 2", self.line.number)
         compared = self.entries.share(operation, *((b, a) if turned else (a, b)))
         return (self.entries.share(11, compared) if sign == "!=" else compared), TRUTH
 
@@ -423,6 +480,9 @@ class Expressions:
 
     def atom(self):
         line = self.line
+        if line.peek() == "-" and not line.next()[:1].isdigit():
+            part = line.next() if NAME.match(line.next()) else "x"
+            raise Trouble(f"only a number has a sign: write (0 - {part}) for -{part}", line.number)
         if line.at_number() or line.peek() == "-":
             return self.entries.share(0, line.signed_field("a constant") % 65536), NUMBER
         if line.has("("):
@@ -441,13 +501,22 @@ class Expressions:
         if call:
             parts = self.arguments(2, lambda: self.number(f"a part of {call!r}"))
             return self.entries.share(CALLS[call], *parts), NUMBER
+        return self.named_part()
+
+    def named_part(self):
+        line = self.line
+        if line.peek() == "if":
+            raise Trouble("an 'if' inside an expression stands in brackets: (if t then x else y)", line.number)
         if line.peek() in RESERVED or not line.at_name():
             line.fail("an expression")
-        name = line.take()
+        name = line.peek()
         if name in self.named:
+            line.take()
             return self.named[name]
         if name not in self.variables:
-            raise Trouble(f"there is no variable {name!r}", line.number)
+            hint = f": write {OTHER_CALLS[name]!r}" if name in OTHER_CALLS and line.next() == "(" else ""
+            raise Trouble(f"there is no variable {name!r}{hint}", line.number)
+        line.take()
         return self.entries.share(1, self.variables[name]), NUMBER
 
     def arguments(self, count, part):
@@ -488,16 +557,14 @@ class ModelText(Reader):
             self.branch(line)
         elif line.has("total"):
             self.once(self.total, "total")
-            self.total = line.field("the total")
+            self.total = line.field("the total", rule=WEIGHT)
         elif line.has("target"):
             self.once(self.target, "target")
             self.target = self.expressions(line).truth("the target")
         elif line.has("variable"):
             self.variable(line)
         elif line.has("command"):
-            self.guards.append(self.expressions(line).truth("a guard"))
-            self.counts.append(line.field("the branch count") if line.has("branches") else None)
-            self.below.append(0)
+            self.command(line)
         elif line.has("let"):
             name = line.new_name("a name", {*self.variables, *self.named})
             line.expect("=")
@@ -513,27 +580,35 @@ class ModelText(Reader):
         if held is not None:
             raise Trouble(f"there is a {word!r} line already")
 
+    def command(self, line):
+        if line.next() == ":":
+            raise Trouble("commands have no names: after 'command' stands the guard")
+        self.guards.append(self.expressions(line).truth("a guard"))
+        self.counts.append(line.field("the branch count", rule=BRANCHES) if line.has("branches") else None)
+        self.below.append(0)
+
     def variable(self, line):
         if self.guards:
             raise Trouble("variables stand before the first command")
         name = line.new_name("a variable's name", {*self.variables, *self.named})
-        low = line.signed_field("the low bound")
+        low = line.signed_field("the low bound", BOUND)
         line.expect("..")
-        high = line.signed_field("the high bound")
+        high = line.signed_field("the high bound", BOUND)
         line.expect("=")
         self.variables[name] = len(self.variables)
-        self.bounds.append(struct.pack("<3h", low, high, line.signed_field("the initial value")))
+        self.bounds.append(struct.pack("<3h", low, high, line.signed_field("the initial value", BOUND)))
 
     def branch(self, line):
         if not self.guards:
             raise Trouble("a branch stands below its command")
-        weight = two(line.field("the weight"), "the weight")
+        weight = two(line.field("the weight", rule=WEIGHT), "the weight")
         line.expect(":")
         assigned = {}
         while line.at_name() or assigned:
             name = line.name("a variable's name")
             if name not in self.variables:
-                raise Trouble(f"there is no variable {name!r}")
+                joined = line.joined(line.at - 1) if name in RESERVED else ""
+                raise Trouble(f"there is no variable {name!r}{joined}")
             if name in assigned:
                 raise Trouble(f"{name!r} is assigned twice")
             if not line.has("'"):
@@ -689,6 +764,30 @@ def names_for(count, names):
     return names
 
 
+def variable_lines(variables, names):
+    lines = []
+    for v, (low, high, initial) in enumerate(variables):
+        line = f"variable {names[v]} {as_signed(low)}..{as_signed(high)} = {as_signed(initial)}"
+        lines.append(commented(line, f"variable {v}"))
+    return lines
+
+
+def command_lines(commands, branches, names, use):
+    """The commands, each with its branches below it; the last one has all that are left."""
+    found, at = [], 0
+    for c, (guard, count) in enumerate(commands):
+        last = c + 1 == len(commands)
+        there = len(branches) - at if last else min(count, len(branches) - at)
+        given = f" branches {count}" if there != count else ""
+        found.append(commented(f"command {use(guard, TRUTH)}{given}", f"command {c}"))
+        for r in range(at, at + there):
+            items = [f"{names[v]}' = {use(e, NUMBER)}" for v, e in enumerate(branches[r][1:])]
+            lines = wrapped(f"  {branches[r][0]}:", items, "    ")
+            found += lines[:-1] + [commented(lines[-1], f"branch record {r}")]
+        at += there
+    return found
+
+
 def show_model(data, names=None, entries_too=False):
     bodies = bodies_of(data, MODEL_BODIES, "model")
     terms, _ = records(bodies[0][:4], 4)
@@ -707,23 +806,9 @@ def show_model(data, names=None, entries_too=False):
         fits = k < len(entries) and texts[k] and sort_of(entries[k][0]) == sort and len(texts[k][0]) <= LONGEST
         return texts[k][0] if fits else f"@{k}"
 
-    head = [f"total {total}" for total, _ in terms]
-    for v, (low, high, initial) in enumerate(variables):
-        line = f"variable {names[v]} {as_signed(low)}..{as_signed(high)} = {as_signed(initial)}"
-        head.append(commented(line, f"variable {v}"))
-
+    head = [f"total {total}" for total, _ in terms] + variable_lines(variables, names)
     rest = [f"target {use(target, TRUTH)}" for _, target in terms]
-    at = 0
-    for c, (guard, count) in enumerate(commands):
-        last = c + 1 == len(commands)
-        there = len(branches) - at if last else min(count, len(branches) - at)
-        given = f" branches {count}" if there != count else ""
-        rest.append(commented(f"command {use(guard, TRUTH)}{given}", f"command {c}"))
-        for r in range(at, at + there):
-            items = [f"{names[v]}' = {use(e, NUMBER)}" for v, e in enumerate(branches[r][1:])]
-            lines = wrapped(f"  {branches[r][0]}:", items, "    ")
-            rest += lines[:-1] + [commented(lines[-1], f"branch record {r}")]
-        at += there
+    rest += command_lines(commands, branches, names, use)
     rest += hex_lines("terms", terms_rest, not terms) + hex_lines("variables", variables_rest)
     rest += hex_lines("expressions", entries_rest) + hex_lines("commands", commands_rest)
     rest += hex_lines("branches", branches_rest)
@@ -759,6 +844,8 @@ class GraphText(Reader):
         self.edges = []
 
     def line(self, line):
+        if "," in line.tokens:
+            raise Trouble("a graph's text has no commas: write spaces between", line.numbers[line.tokens.index(",")])
         if line.has("variables"):
             self.names(line)
         elif line.has("node"):
@@ -778,7 +865,7 @@ class GraphText(Reader):
         line.end()
         if len(self.variables) != self.shape.variables:
             there = counted(self.shape.variables, "variable")
-            raise Trouble(f"the model has {there}, and here stands {counted(len(self.variables), 'name')}")
+            raise Trouble(f"the model has {there}, and the line has {counted(len(self.variables), 'name')}")
 
     def items(self, line, bare):
         """Variables with values, by the variable's number; where `bare` allows it, a value may be left out."""
@@ -793,8 +880,13 @@ class GraphText(Reader):
                 found[self.variables[name]] = None
                 continue
             line.expect("=")
-            found[self.variables[name]] = line.signed_field(f"the value of {name!r}")
+            found[self.variables[name]] = line.signed_field(f"the value of {name!r}", BOUND)
         return found
+
+    def tracks(self, line):
+        if line.has("none"):
+            return {}
+        return self.items(line, True) or line.fail("a variable that is tracked, or 'none',")
 
     def node(self, line):
         number = line.number_here("a node's number")
@@ -813,13 +905,15 @@ class GraphText(Reader):
             if word in said:
                 raise Trouble(f"{word!r} stands twice")
             if word == "tracks":
-                said[word] = {} if line.has("none") else self.items(line, True)
+                said[word] = self.tracks(line)
             elif word in ("state", "label"):
                 said[word] = self.items(line, False)
             elif word == "value" and line.has("S"):
                 said[word] = CERTAINTY
+            elif word == "value":
+                said[word] = line.field("the value", 4, VALUE)
             elif word in CLAUSES:
-                said[word] = line.field(f"the number after {word!r}", 4 if word == "value" else 2)
+                said[word] = line.field(f"the number after {word!r}", rule=NODE if word == "by" else None)
             else:
                 raise Trouble(f"{word!r} is not known here: a node has " + ", ".join(sorted(CLAUSES)))
         line.end()
@@ -835,6 +929,8 @@ class GraphText(Reader):
             raise Trouble(f"the {KINDS[kind]} node has no value")
         if "set" in said and "tracks" in said:
             raise Trouble("'set' stands in place of 'tracks'")
+        if "set" not in said and "tracks" not in said:
+            raise Trouble("the node has no 'tracks': 'tracks none' if it tracks nothing")
         state, tracks, label = said.get("state", {}), said.get("tracks", {}), dict(said.get("label", {}))
         for v, value in tracks.items():
             name = list(self.variables)[v]
@@ -857,7 +953,7 @@ class GraphText(Reader):
         fields = [line.field("the command")]
         line.expect(":")
         while line.at_number():
-            fields.append(line.field("a successor"))
+            fields.append(line.field("a successor", rule=NODE))
         if not raw:
             self.fit(fields[0], len(fields) - 1)
         self.below[-1] += 1
@@ -875,6 +971,8 @@ class GraphText(Reader):
             raise Trouble(f"command {command} has {counted(count, 'branch')}, and the edge has {given}{anyway}")
 
     def bodies_written(self):
+        if not self.nodes and "nodes" not in self.given:
+            raise Trouble("there is no 'node' line")
         nodes = [
             head + two(below if count is None else count, "the edge count") + rest
             for (head, count, rest), below in zip(self.nodes, self.below)
@@ -938,7 +1036,7 @@ def show_graph(data, model, names=None):
                 at += size
         lines.append(line if len(below) == count else f"{line} edges {count}")
         lines += below
-    lines += hex_lines("nodes", nodes_rest) + hex_lines("edges", edges[at:])
+    lines += hex_lines("nodes", nodes_rest, not fields) + hex_lines("edges", edges[at:])
     return "\n".join(lines) + "\n"
 
 
@@ -960,7 +1058,7 @@ def read_text(path):
     except UnicodeDecodeError:
         text = "\0"
     if "\0" in text:
-        raise Trouble("this is no text: is it a folder?")
+        raise Trouble("this is not UTF-8 text, or it is a folder")
     return text
 
 

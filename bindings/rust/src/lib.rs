@@ -37,8 +37,8 @@
 //!   limits, each from a seed (the environment variable `LAGUIPY_CASES` says how
 //!   many seeds the tests take);
 //! - `tests/against_reference.rs`: every call compared with the plain one;
-//! - `examples/check.rs`: the check program; `examples/bench.rs`: how long both
-//!   take on the largest inputs.
+//! - `examples/check.rs`: prints the check program's report, without its limit of
+//!   65,536 bytes; `examples/bench.rs`: how long both take on the largest inputs.
 
 /// Certainty, in units.
 pub const CERTAIN: u32 = 1_000_000_000;

@@ -1,4 +1,5 @@
-// Each row of document 01's table, broken by changes to the pedal example's folders.
+// Rows 2 to 11 and 13 to 28 of document 01's table, each broken by changes to the pedal example's folders. Rows 1 and 12
+// are in limits.rt, rows 29 to 33 in pedal.rt.
 use trials::answers::Kind;
 use trials::table::table;
 
@@ -68,7 +69,7 @@ fn graph_rules(t: &mut [usize; 40], m: &mut [u8], g: &mut [u8]) {
     table(t, m, g, Kind::Graph, text);
 }
 
-// Rows 25 to 28, by the call that tells and by the one that writes.
+// Rows 26 to 28, and one before them, by the call that tells and by the one that writes.
 fn figure_rows(t: &mut [usize; 40], m: &mut [u8], g: &mut [u8], kind: Kind) {
     let text =
         b" h 10000: 10000 6 6 3 0 0; h 10001: 10001 6 6 3 27 0; first row short: 1 5 6 3 28 0; \

@@ -59,7 +59,7 @@ fn figures(t: &mut [usize; 40], m: &[u8], g: &[u8]) {
 }
 
 // A record that is there, and the empty part for one that is not.
-fn view(t: &mut [usize; 40], m: &[u8]) {
+fn plain_view(t: &mut [usize; 40], m: &[u8]) {
     let part = laguipy::record_part(m, 3, 1);
     hold(
         t,
@@ -75,6 +75,20 @@ fn view(t: &mut [usize; 40], m: &[u8]) {
         b"records missing",
         3,
         (past == 0) & (none == 0) & (short == 0),
+    );
+}
+
+// The same by the struct.
+fn held_view(t: &mut [usize; 40], m: &[u8]) {
+    let part = view::record_of(m, 3, 1);
+    let past = view::record_of(m, 3, 2).len();
+    let short = view::record_of(head(m, 39), 3, 1).len();
+    let same = check::same(part, b"\x07\x00\x01\x00");
+    hold(
+        t,
+        b"record by the struct",
+        3,
+        same & (past == 0) & (short == 0),
     );
 }
 
@@ -107,7 +121,8 @@ fn as_printed(t: &mut [usize; 40], m: &[u8], g: &[u8]) {
     figures(t, m, g);
     steps(t, m);
     short_row(t, m);
-    view(t, m);
+    plain_view(t, m);
+    held_view(t, m);
 }
 
 fn printed(t: &mut [usize; 40]) {

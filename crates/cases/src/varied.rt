@@ -1,4 +1,5 @@
-// Folders varied from the pedal example by a fixed rule, each against the solver.
+// Folders varied from the pedal example by a fixed rule. Each accepted model's steps and each accepted graph's bounds are
+// compared with the solver's; of refusals, that a model and its graph agree.
 use solver::add;
 use solver::byte;
 use solver::mul;

@@ -1,5 +1,7 @@
 // The rules of a node that read expressions: A2, B1 and B2, rows 19 to 21 of the table. How entries read is settled
 // before, once for the node: `known` and `values` for its label, and `state` for its concrete state.
+use graph::EXPANDED;
+use graph::TARGET;
 ghost use mathlib.Core.Path.{_≡_};
 ghost use mathlib.Core.Bool.{true};
 ghost use Prim.Native.Nat.{_+_, _<_, _≤_, _^_};
@@ -16,11 +18,6 @@ ghost use Rattle.graph.specs.Rules.{A1, A2, B1, B2};
 ghost use Rattle.graph.specs.Walks.{startsAt};
 ghost use Rattle.expand.specs.Node.{NodeOf, LabelSettled, StateSettled, FirstsOf};
 ghost use Rattle.expand.specs.Tests.{knownAt, falseAt, readsAt, namesAt, variableFollows, branchFollows, branchesFollow, sameEdges, allFollow};
-
-// Kinds of a node.
-const EXPANDED: usize = 1;
-
-const TARGET: usize = 3;
 
 // Fills the front of a row with the values of node n whose first is field f: 6 for the concrete label, and as many more
 // as there are variables for the abstract one.

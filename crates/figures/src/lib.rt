@@ -1,6 +1,7 @@
 // The figure call over a model and a graph that the checks accept: rows 26 to 28 of the table, the figures written into
 // two rows that the caller lends, and the part of a row that holds them.
 use folder::Outcome;
+use graph::WAITING;
 ghost use mathlib.Core.Path.{_≡_};
 ghost use mathlib.Core.Bool.{not};
 ghost use mathlib.Core.List.{List};
@@ -27,7 +28,7 @@ fn first_waiting(m: &[u8], g: &[u8]) -> usize
     let ns = folder::body(g, 0);
     let mut i = 0;
     while i < n {
-        if folder::field(size, ns, i, 0) != 0 {
+        if folder::field(size, ns, i, 0) != WAITING {
             i += 1;
         } else {
             return i;

@@ -109,7 +109,7 @@ module _ (M : Model) (G : Simulation) where
       (λ r. (((r .kind, r .value), (r .cover, r .edges)), (r .bits, λ v l. ((r .low v l, r .high v l), r .untracked v l))))
       (head-decided n ∧also same (G .tracked n / 2 ^ M .variables) 0 ∧also everywhere (M .variables) (λ v l. values-decided n v))
 
-  edge-decided : (n e : ℕ) → Decides (EdgeRight M G n e) (edgeFits M G n e)
+  pub edge-decided : (n e : ℕ) → Decides (EdgeRight M G n e) (edgeFits M G n e)
   unfolding edgeFits
   edge-decided n e =
       reworded (λ h. record { command = h .0 .0; whole = h .0 .1; successors = h .1 }) (λ r. ((r .command, r .whole), r .successors))
@@ -129,11 +129,11 @@ module _ (M : Model) (G : Simulation) where
       (everywhere (M .variables) (λ v l. equal-decided (G .concrete 0 v) (M .initial v)))
 
   -- ---- rows 18 to 25
-  a1-decided : (n : ℕ) → Decides (RightA1 M G n) (A1 M G n)
+  pub a1-decided : (n : ℕ) → Decides (RightA1 M G n) (A1 M G n)
   unfolding A1
   a1-decided n = everywhere (M .variables) (λ v l. whenever (passes (tracks G n v)) (equal-decided (G .label n v) (G .concrete n v)))
 
-  a2-decided : (n : ℕ) → Decides (RightA2 M G n) (A2 M G n)
+  pub a2-decided : (n : ℕ) → Decides (RightA2 M G n) (A2 M G n)
   unfolding A2
   a2-decided n = reworded
       (λ h. record { guards = λ k. h .0 k .0; no-target = λ k. h .0 k .1; target = h .1 })
@@ -142,7 +142,7 @@ module _ (M : Model) (G : Simulation) where
       (everywhere (M .commands) (λ c l. known-decided (truthOf M G n (M .guard c))) ∧also false-decided (truthOf M G n (M .target)))
       ∧also whenever (same (G .kind n) 3) (true-decided (truthOf M G n (M .target))))
 
-  b1-decided : (n : ℕ) → Decides (RightB1 M G n) (B1 M G n)
+  pub b1-decided : (n : ℕ) → Decides (RightB1 M G n) (B1 M G n)
   unfolding B1
   b1-decided n = whenever (same (G .kind n) 1) (same-lists (tab (G .edges n) (G .command n)) (passing (M .commands) (enabledIn M G n)))
 
@@ -165,26 +165,26 @@ module _ (M : Model) (G : Simulation) where
   unfolding edgeFollows
   edge-follows n e = everywhere (M .branches (G .command n e)) (λ b l. follows-decided n e b)
 
-  b2-decided : (n : ℕ) → Decides (RightB2 M G n) (B2 M G n)
+  pub b2-decided : (n : ℕ) → Decides (RightB2 M G n) (B2 M G n)
   unfolding B2
   b2-decided n = whenever (same (G .kind n) 1) (everywhere (G .edges n) (λ e l. edge-follows n e))
 
-  c3-decided : (n : ℕ) → Decides (RightC3 M G n) (C3 M G n)
+  pub c3-decided : (n : ℕ) → Decides (RightC3 M G n) (C3 M G n)
   unfolding C3
   c3-decided n = whenever (same (G .kind n) 2) (below (G .cover n) (G .nodes) ∧also unless (same (G .kind (G .cover n)) 2))
 
-  c1-decided : (n : ℕ) → Decides (RightC1 M G n) (C1 M G n)
+  pub c1-decided : (n : ℕ) → Decides (RightC1 M G n) (C1 M G n)
   unfolding C1
   c1-decided n = whenever (same (G .kind n) 2)
       (everywhere (M .variables) (λ v l. whenever (passes (tracks G (G .cover n) v)) (equal-decided (G .concrete n v) (G .label (G .cover n) v))))
 
-  c2-decided : (n : ℕ) → Decides (RightC2 M G n) (C2 M G n)
+  pub c2-decided : (n : ℕ) → Decides (RightC2 M G n) (C2 M G n)
   unfolding C2
   c2-decided n = whenever (same (G .kind n) 2)
       (everywhere (M .variables) (λ v l.
       whenever (passes (tracks G (G .cover n) v)) (passes (tracks G n v) ∧also equal-decided (G .label n v) (G .label (G .cover n) v))))
 
-  value-decided : (value : ℕ → ℕ) (n : ℕ) → Decides (RightValue M G value n) (valueFits M G value n)
+  pub value-decided : (value : ℕ → ℕ) (n : ℕ) → Decides (RightValue M G value n) (valueFits M G value n)
   unfolding valueFits
   value-decided value n = reworded
       (λ h. record { waiting = h .0 .0; target = h .0 .1; expanded = h .1 .0; covered = h .1 .1 })

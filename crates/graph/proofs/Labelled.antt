@@ -78,6 +78,10 @@ no-bit t w i e l =
     let b : 2 ^ w ≤ 2 ^ i = pow-le-pow-right {n = 2} (omega arith) l in
     rw (div-eq-of-lt {n = t} {m = 2 ^ i} (omega arith))
 
+true-of-known : (b : Bool) → isTrue (knownTruth b) ≡ b
+true-of-known true = refl
+true-of-known false = refl
+
 module _ (M : Model) (R : ModelRight M) (G : Simulation) (A : GraphRight M G) where
   tracked-there : (n : ℕ) → n < G .nodes → (i : ℕ) → tracks G n i ≡ true → i < M .variables
   tracked-there n l i t = go (decLt i (M .variables))
@@ -193,6 +197,12 @@ module _ (M : Model) (R : ModelRight M) (G : Simulation) (A : GraphRight M G) wh
     };
     agrees = λ v p t. getD-tab (pos 0) (M .variables) (G .concrete n) v p ∙ sym (A .a1 n l v p t);
   }
+
+  -- "Enabled" as document 01 has it, in the concrete label, is what B1 reads in the abstract one.
+  pub enabled-concrete : (n : ℕ) → n < G .nodes → G .kind n ≡ 1 → (d : ℕ) → d < M .commands
+      → enabledIn M G n d ≡ truthIn (M .entries) (concreteState M G n) (M .guard d)
+  enabled-concrete n l x d h =
+      ap isTrue (known-truth (says-truth n l (concreteState M G n) (own n l) (M .guard d)) (A .a2 n l .guards x d h)) ∙ true-of-known (truthIn (M .entries) (concreteState M G n) (M .guard d))
 
   pub root-contains : 0 < G .nodes → Contains M G 0 (initialState M)
   root-contains l = subst (λ (s : State). Contains M G 0 s) (A .initial) (own 0 l)

@@ -1,7 +1,7 @@
 -- Document 01, "Figures": the figure call, rows 26 to 28 after the graph's, and the content of both rows.
 -- Assumes nothing.
 use Prim.Native.Nat.{ℕ, _-_, _%_}
-use mathlib.Core.Bool.{Bool, not}
+use mathlib.Core.Bool.{Bool, true, not}
 use mathlib.Core.List.{List, [], _∷_, _++_}
 use lib.ListN.{length, drop}
 use lib.Dec.{leb, eqb}
@@ -61,7 +61,7 @@ module _ (M : Model) (G : Simulation) (h : ℕ) where
 
   abbrev pub partInFirst : Outcome → Bool
   partInFirst Accepted = inFirst h
-  partInFirst (Refused f) = inFirst 0
+  partInFirst (Refused f) = true
 
 module _ (m g : List ℕ) (h : ℕ) (first second : List ℕ) where
   unfoldable pub firstRow : List ℕ

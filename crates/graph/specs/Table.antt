@@ -69,3 +69,17 @@ answerOf (O.Refused f) s = Refused f
 -- What the graph check answers.
 unfoldable pub graphAnswer : List ℕ → List ℕ → GraphAnswer
 graphAnswer m g = answerOf (graphOutcome m g) (summary (simulationOf (modelOf m) g))
+
+-- Document 01's number of a graph check's answer, and what is returned with it. Acceptance has none: 0.
+abbrev pub answerNumber : GraphAnswer → ℕ
+answerNumber (Accepted s) = 0
+answerNumber (Refused f) = f .number
+
+abbrev pub answerPlace : GraphAnswer → ℕ
+answerPlace (Accepted s) = 0
+answerPlace (Refused f) = f .place
+
+-- The root value and the count of nodes of each kind, by the kind's number. A refusal has none: 0.
+abbrev pub answerValues : GraphAnswer → List ℕ
+answerValues (Accepted s) = s .root ∷ s .waiting ∷ s .expanded ∷ s .covered ∷ s .target ∷ []
+answerValues (Refused f) = 0 ∷ 0 ∷ 0 ∷ 0 ∷ 0 ∷ []

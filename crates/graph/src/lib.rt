@@ -1,4 +1,4 @@
-// The graph check: rows 12 to 17 of the table, over a model folder that the model check accepts. A body is a slice of
+// The first rows of the graph check, 12 to 17, over a model folder that the model check accepts. A body is a slice of
 // its own: vs and cs are the model's variables and commands, ns and es the graph's nodes and edges. A contract over
 // bodies holds of whichever folders have them.
 use folder::Outcome;
@@ -25,20 +25,22 @@ ghost use Rattle.graph.specs.Rows.{firstRows};
 ghost use Rattle.graph.specs.Walks.{NodeBodies, successorFits, EdgeAt, Walked};
 
 // Certainty, in units.
-const UNITS: usize = 1000000000;
+pub const UNITS: usize = 1000000000;
 
 const LEAST_BYTES: usize = 16;
 
 const MOST_BYTES: usize = 1048576;
 
-const MOST_NODES: usize = 4096;
+pub const MOST_NODES: usize = 4096;
 
 // Kinds of a node.
-const EXPANDED: usize = 1;
+pub const WAITING: usize = 0;
 
-const COVERED: usize = 2;
+pub const EXPANDED: usize = 1;
 
-const TARGET: usize = 3;
+pub const COVERED: usize = 2;
+
+pub const TARGET: usize = 3;
 
 // Of an accepted graph: the root's value, and how many nodes there are of each kind.
 pub struct Summary {

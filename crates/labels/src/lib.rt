@@ -1,4 +1,9 @@
 // The rules of one node of a graph that need no reading: A1, C3, C1, C2 and the value rule.
+use graph::COVERED;
+use graph::EXPANDED;
+use graph::TARGET;
+use graph::UNITS;
+use graph::WAITING;
 ghost use mathlib.Core.Path.{_≡_};
 ghost use Prim.Native.Nat.{_*_, _<_, _≤_};
 ghost use lib.ListN.{getD, length};
@@ -88,7 +93,8 @@ pub fn c3(m: &[u8], g: &[u8], n: usize) -> bool
     let nb = folder::body(g, 0);
     let k = node_field(nb, vars, n, 1);
     let nodes = folder::count_of(12 + 4 * vars, nb);
-    !(node_field(nb, vars, n, 0) == 2) | ((k < nodes) & !(node_field(nb, vars, k, 0) == 2))
+    !(node_field(nb, vars, n, 0) == COVERED)
+        | ((k < nodes) & !(node_field(nb, vars, k, 0) == COVERED))
 }
 
 // Row 23: the concrete label of a covered node lies in the cover's label.
@@ -98,7 +104,7 @@ pub fn c1(m: &[u8], g: &[u8], n: usize) -> bool
 {
     let vars = model::variable_count(m);
     let nb = folder::body(g, 0);
-    if node_field(nb, vars, n, 0) == 2 {
+    if node_field(nb, vars, n, 0) == COVERED {
         let k = node_field(nb, vars, n, 1);
         let t = node_field(nb, vars, k, 5);
         first_apart(nb, vars, t, t, n, 6, k) == vars
@@ -114,7 +120,7 @@ pub fn c2(m: &[u8], g: &[u8], n: usize) -> bool
 {
     let vars = model::variable_count(m);
     let nb = folder::body(g, 0);
-    if node_field(nb, vars, n, 0) == 2 {
+    if node_field(nb, vars, n, 0) == COVERED {
         let k = node_field(nb, vars, n, 1);
         let t = node_field(nb, vars, k, 5);
         let u = node_field(nb, vars, n, 5);
@@ -198,8 +204,8 @@ pub fn value_fits(
     let eb = folder::body(g, 1);
     let limit = limit_of(m, value);
     let below = first_above(cs, eb, weights, firsts, values, at, count, limit) == count;
-    ((!(kind == 0) | (value == 1000000000)) & (!(kind == 3) | (value == 1000000000)))
-        & ((!(kind == 1) | below) & (!(kind == 2) | (over <= value)))
+    ((!(kind == WAITING) | (value == UNITS)) & (!(kind == TARGET) | (value == UNITS)))
+        & ((!(kind == EXPANDED) | below) & (!(kind == COVERED) | (over <= value)))
 }
 
 // The row's first elements become the 4-byte field 2 of each record; the later ones stay.

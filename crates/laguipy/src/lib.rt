@@ -1,6 +1,6 @@
 // Laguipy: machine-checked answers about probabilistic systems. The calls of document 01 on two folders' bytes. None asks
 // anything of its arguments; each contract gives the answer and every row's content as equal to a definition, and
-// proofs/Demand.antt says what an accepted graph gives.
+// graph/proofs/Demand.antt says what an accepted graph gives.
 use folder::Outcome;
 use graph::GraphAnswer;
 use graph::Summary;

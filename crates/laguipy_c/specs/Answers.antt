@@ -7,22 +7,6 @@ use lib.ListN.{length}
 use Rattle.folder.specs.Pick.{pick}
 use Rattle.model.specs.View.{viewStart, viewPart}
 use Rattle.graph.specs.Figures.{figurePart, figureInFirst}
-use Rattle.graph.specs.declared.GraphAnswer.{GraphAnswer}
-use Rattle.graph.specs.declared.GraphAnswer.the-variants.{Accepted, Refused}
-
--- Document 01's number of a graph check's answer, and what is returned with it. Acceptance has none: 0.
-abbrev pub answerNumber : GraphAnswer → ℕ
-answerNumber (Accepted s) = 0
-answerNumber (Refused f) = f .number
-
-abbrev pub answerPlace : GraphAnswer → ℕ
-answerPlace (Accepted s) = 0
-answerPlace (Refused f) = f .place
-
--- The root value and the count of nodes of each kind, by the kind's number. A refusal has none: 0.
-abbrev pub answerValues : GraphAnswer → List ℕ
-answerValues (Accepted s) = s .root ∷ s .waiting ∷ s .expanded ∷ s .covered ∷ s .target ∷ []
-answerValues (Refused f) = 0 ∷ 0 ∷ 0 ∷ 0 ∷ 0 ∷ []
 
 -- The view's part: where it starts in the folder, and its length.
 abbrev pub viewPlace : List ℕ → ℕ → ℕ → List ℕ

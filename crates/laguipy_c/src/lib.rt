@@ -11,9 +11,9 @@ ghost use Rattle.folder.specs.declared.Outcome.the-variants.{Accepted};
 ghost use Rattle.model.specs.Table.{folderRows, modelOutcome};
 ghost use Rattle.model.specs.View.{viewStart};
 ghost use Rattle.model.specs.Step.{stepOutcome, stepRow};
-ghost use Rattle.graph.specs.Table.{graphAnswer};
+ghost use Rattle.graph.specs.Table.{graphAnswer, answerNumber, answerPlace, answerValues};
 ghost use Rattle.graph.specs.Figures.{figureOutcome, inFirst, firstRow, secondRow};
-ghost use Rattle.laguipy_c.specs.Answers.{answerNumber, answerPlace, answerValues, viewPlace, figurePlace};
+ghost use Rattle.laguipy_c.specs.Answers.{viewPlace, figurePlace};
 
 fn number_of(o: Outcome) -> usize
     ensures { λ r. ⌜ r ≡ numberOf o ⌝ }

@@ -28,10 +28,10 @@ use Rattle.model.specs.Table.{folderRows, contentRows, modelRows, modelO
 use Rattle.model.specs.Valid.{RecordsRight, VariableRight, CommandRight, BranchRight, ModelRight, FolderRight, Valid, StepRight}
 use Rattle.model.specs.Step.{valueFits, stepRows, stepOutcome}
 
-bytes-decided : (m : List ℕ) → Decides ((leastBytes ≤ length m) × (length m ≤ mostBytes)) (bytesFit m)
+pub bytes-decided : (m : List ℕ) → Decides ((leastBytes ≤ length m) × (length m ≤ mostBytes)) (bytesFit m)
 bytes-decided m = at-most leastBytes (length m) ∧also at-most (length m) mostBytes
 
-records-decided : (m : List ℕ) (e : ℕ) → Decides (RecordsRight m e) (recordsFit m e)
+pub records-decided : (m : List ℕ) (e : ℕ) → Decides (RecordsRight m e) (recordsFit m e)
 unfolding recordsFit
 records-decided m e =
     reworded (λ h. record { whole = h .0 .0; some = h .0 .1; few = h .1 }) (λ r. ((r .whole, r .some), r .few))
@@ -48,7 +48,7 @@ module _ (M : Model) where
       ∧also at-mostZ (M .low v) (M .initial v)
       ∧also at-mostZ (M .initial v) (M .high v))
 
-  command-decided : (c : ℕ) → Decides (CommandRight M c) (commandFits M c)
+  pub command-decided : (c : ℕ) → Decides (CommandRight M c) (commandFits M c)
   unfolding commandFits
   command-decided c =
       reworded (λ h. record { guard = h .0; some = h .1 .0; few = h .1 .1 }) (λ r. (r .guard, (r .some, r .few)))
@@ -63,17 +63,17 @@ module _ (M : Model) where
   assigned-decided r v =
       number-decided (M .entries) (M .assigned r v) ∧also inside-decided (rangeOf (M .entries) (bound M) (M .assigned r v)) (bound M v)
 
-  branch-decided : (r : ℕ) → Decides (BranchRight M r) (branchFits M r)
+  pub branch-decided : (r : ℕ) → Decides (BranchRight M r) (branchFits M r)
   unfolding branchFits
   branch-decided r =
       reworded (λ h. record { weight = h .0; number = λ v l. h .1 v l .0; range = λ v l. h .1 v l .1 }) (λ b. (b .weight, λ v l. (b .number v l, b .range v l)))
       (unless (same (M .weight r) 0) ∧also everywhere (M .variables) (λ v l. assigned-decided r v))
 
-  weights-decided : (c : ℕ) → Decides (sum (M .branches c) (λ b _. M .weight (firstRecord M c + b)) ≡ M .total) (weightsTotal M c)
+  pub weights-decided : (c : ℕ) → Decides (sum (M .branches c) (λ b _. M .weight (firstRecord M c + b)) ≡ M .total) (weightsTotal M c)
   unfolding weightsTotal
   weights-decided c = same (sum (M .branches c) (λ b _. M .weight (firstRecord M c + b))) (M .total)
 
-  terms-decided : (p : ℕ) → Decides ((p ≡ 0 → M .total ≡ 0 → ⊥) × (p ≡ 1 → IsTruth (M .entries) (M .target))) (termsFit M p)
+  pub terms-decided : (p : ℕ) → Decides ((p ≡ 0 → M .total ≡ 0 → ⊥) × (p ≡ 1 → IsTruth (M .entries) (M .target))) (termsFit M p)
   unfolding termsFit
   terms-decided p = whenever (same p 0) (unless (same (M .total) 0)) ∧also whenever (same p 1) (truth-decided (M .entries) (M .target))
 

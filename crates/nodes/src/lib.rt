@@ -1,7 +1,10 @@
 // The graph check of an accepted model: rows 18 to 25 after rows 12 to 17, the rules of each node finished before the
 // next one's; and what an accepted graph has.
 use folder::Outcome;
+use graph::EXPANDED;
+use graph::MOST_NODES;
 use graph::Summary;
+use graph::TARGET;
 ghost use mathlib.Core.Path.{_≡_};
 ghost use mathlib.Core.Bool.{true};
 ghost use Prim.Native.Nat.{_+_, _≤_};
@@ -74,10 +77,10 @@ fn reading_rules(m: &[u8], g: &[u8], n: usize, at: usize, firsts: &[usize]) -> u
 {
     let size = graph::node_size(graph::variable_count(m));
     let kind = folder::field(size, folder::body(g, 0), n, 0);
-    if kind == 1 {
+    if kind == EXPANDED {
         return settled_rules(m, g, n, at, firsts);
     }
-    if kind == 3 {
+    if kind == TARGET {
         return settled_rules(m, g, n, at, firsts);
     }
     0
@@ -164,7 +167,7 @@ fn check_nodes(m: &[u8], g: &[u8]) -> Outcome
     requires { ⌜ RowsRight (modelOf (now m)) (now g) ⌝ }
     ensures { λ r. ⌜ r ≡ outcome (drop 6 (graphRows (modelOf (now (m .entry))) (now (g .entry)))) ⌝ }
 {
-    let mut values = [0u32; 4096];
+    let mut values = [0u32; MOST_NODES];
     let mut weights = [0usize; 1024];
     let mut firsts = [0usize; 64];
     labels::fill_values(m, g, &mut values);

@@ -1,6 +1,7 @@
 // What the check program prints, written into a lent slice.
 use folder::Refusal;
 use graph::GraphAnswer;
+use graph::MOST_NODES;
 use graph::Summary;
 ghost use mathlib.Core.Path.{_≡_};
 ghost use Prim.Native.Nat.{_+_, _≤_};
@@ -14,8 +15,6 @@ ghost use Rattle.graph.specs.Valid.{Valid};
 ghost use Rattle.graph.specs.declared.GraphAnswer.the-variants.{Accepted};
 ghost use Rattle.report.specs.Report.{countsLine, rootLine, withinLine, figureLines, refusedLine};
 ghost use Rattle.report.specs.Report.{rootFigure, textOf, reportText};
-
-const ROW: usize = 4096;
 
 // A refusal's line.
 fn put_refusal(out: &mut [u8], f: Refusal) -> usize
@@ -79,8 +78,8 @@ fn root_figure(model: &[u8], graph: &[u8], h: usize) -> usize
     requires { ⌜ (summary (simulationOf (modelOf (now model)) (now graph)) .waiting ≡ 0) × (h ≤ mostSteps) ⌝ }
     ensures { λ r. ⌜ r ≡ rootFigure (now (model .entry)) (now (graph .entry)) h ⌝ }
 {
-    let mut first = [0u32; ROW];
-    let mut second = [0u32; ROW];
+    let mut first = [0u32; MOST_NODES];
+    let mut second = [0u32; MOST_NODES];
     figures::figure_fill(model, graph, h, &mut first, &mut second);
     if h % 2 == 0 {
         wide(first[0])

@@ -1,4 +1,6 @@
 // Figures: sums over edges, and the rounds over two rows that the caller lends.
+use graph::COVERED;
+use graph::EXPANDED;
 ghost use mathlib.Core.Path.{_≡_};
 ghost use Prim.Native.Nat.{_+_, _-_, _*_, _/_, _<_, _≤_, _^_, max};
 ghost use lib.ListN.{length};
@@ -154,10 +156,10 @@ fn figure_by(kind: usize, best: usize, d: usize) -> u32
     requires { ⌜ (0 < d) × (d < 65536) × (best ≤ d * units) ⌝ }
     ensures { λ r. ⌜ r ≡ figureBy kind best d ⌝ }
 {
-    if kind == 1 {
+    if kind == EXPANDED {
         return up(best, d) as u32;
     }
-    if kind == 2 {
+    if kind == COVERED {
         return 0;
     }
     UNITS
@@ -212,7 +214,7 @@ fn fill_start(m: &[u8], g: &[u8], dst: &mut [u32])
 fn source_of(kind: usize, cover: usize, n: usize) -> usize
     ensures { λ r. ⌜ r ≡ pick (eqb kind 2) cover n ⌝ }
 {
-    if kind == 2 { cover } else { n }
+    if kind == COVERED { cover } else { n }
 }
 
 // Each covered node takes its cover's figure of the same round. A cover is not covered, so its figure stands.

@@ -270,6 +270,10 @@ fn first_outside(m: &[u8], s: &[usize; 16]) -> usize {
     i
 }
 
+fn due(number: usize, place: usize) -> Verdict {
+    Verdict { number, place }
+}
+
 // The step of the first n values, into a row of `room` values.
 pub fn step_verdict(
     m: &[u8],
@@ -280,40 +284,22 @@ pub fn step_verdict(
     b: usize,
 ) -> Verdict {
     if (n != variables(m)) | (room < n) {
-        return Verdict {
-            number: 29,
-            place: 0,
-        };
+        return due(29, 0);
     }
     let i = first_outside(m, s);
     if i < n {
-        return Verdict {
-            number: 30,
-            place: i,
-        };
+        return due(30, i);
     }
     if commands(m) <= c {
-        return Verdict {
-            number: 31,
-            place: c,
-        };
+        return due(31, c);
     }
     if !enabled(m, s, c) {
-        return Verdict {
-            number: 32,
-            place: c,
-        };
+        return due(32, c);
     }
     if branches(m, c) <= b {
-        return Verdict {
-            number: 33,
-            place: b,
-        };
+        return due(33, b);
     }
-    Verdict {
-        number: 0,
-        place: 0,
-    }
+    due(0, 0)
 }
 
 fn power(d: usize, k: usize) -> usize {

@@ -1,5 +1,5 @@
 use mathlib.Core.Path.{ap, _∙_}
-use Rattle.laguipy_c.specs.Answers.{answerNumber, answerPlace, answerValues}
+use Rattle.graph.specs.Table.{answerNumber, answerPlace, answerValues}
 use borrow.Author.Needs.{needs}
 use Rattle.laguipy_c.proofs.laguipy_graph_check.Statement.{statement}
 use Rattle.laguipy_c.proofs.laguipy_graph_check.Tie as tie
