@@ -4,21 +4,27 @@
  * A model and a graph come as folders of bytes (docs/FORMAT.md). Each call believes nothing of them: it names the first
  * broken rule and its place (docs/REFUSALS.md), or accepts. No strategy reaches a target of the model with a greater
  * chance than the root value of an accepted graph. Values and figures are whole units; LAGUIPY_CERTAIN units are
- * certainty. Every call is proved to answer as document 01 defines, whatever the bytes and the lengths are.
+ * certainty. Every call is proved to answer as document 01 defines.
  *
- * What holds of every call:
+ * You, on every call:
  *
- * - It returns 0 for acceptance, else the number of the refusal, 1 to 33, and writes the place that the table returns
- *   with that number to *place, 0 if accepted. Only laguipy_record_part returns nothing.
- * - A slice is a pointer and a count of elements, of any length, 0 among them. The pointer is never NULL, not even
- *   that of an empty slice, and is aligned for its elements: folders need no alignment, rows that of uint32_t or
- *   int16_t, numbers that of size_t.
- * - Whatever is written to (rows, *place, values, part) overlaps nothing else that is passed. What is only read may
- *   overlap: the same bytes may be passed as model and graph. Nobody else writes to any of it during the call.
- * - All memory is the caller's. A call allocates nothing, frees nothing, keeps no pointer, reads and writes no file,
- *   and has no state: calls on different rows may run in any number of threads at once. It needs less than
- *   LAGUIPY_STACK_BYTES of stack, and always ends.
- * - The plain numbers that a caller lends (*place, values, part) are written on every call.
+ * - pass a slice as a pointer and a count of elements, which may be 0. No pointer is NULL, not even that of an empty
+ *   slice, and each is aligned for its elements: folders need no alignment, rows that of uint32_t or int16_t, numbers
+ *   (*place, values, part) that of size_t.
+ * - keep whatever is written to (rows, *place, values, part) apart from all else that is passed. What is only read may
+ *   overlap: the same bytes may be passed as model and graph.
+ * - see to it that, during the call, nobody else writes to what is passed or reads what is written to.
+ * - have LAGUIPY_STACK_BYTES of stack left.
+ *
+ * It, on every call, whatever the bytes and the lengths are:
+ *
+ * - returns 0 for acceptance, else the number of the refusal, 1 to 33. Only laguipy_record_part returns nothing.
+ * - writes its answers, *place, values and part, refused or not. *place is the place that docs/REFUSALS.md gives for
+ *   the refusal, 0 if accepted. Rows (first, second, result) are no answers: refused, they stay as they were.
+ * - ends, allocates nothing, frees nothing, keeps no pointer, reads and writes no file, and has no state: calls on
+ *   different rows may run in any number of threads at once.
+ *
+ * The library is for x86-64. Of the C library it needs memset and memcpy at most.
  */
 #ifndef LAGUIPY_H
 #define LAGUIPY_H
@@ -55,18 +61,18 @@ enum {
     LAGUIPY_VALUES
 };
 
-/* The model check: rows 1 to 11 of the table. */
+/* The model check: refusals 1 to 11 (docs/REFUSALS.md). */
 size_t laguipy_model_check(const uint8_t *model, size_t model_len, size_t *place);
 
 /*
  * The view: record `record` of body `body` of the model folder (0 terms, 1 variables, 2 expressions, 3 commands, 4
- * branches). part[0] is where it starts in the folder, part[1] its length in bytes; both are 0 where the folder breaks
- * row 1, 2 or 3, or has no such body or record. part[0] + part[1] is at most model_len.
+ * branches). part[0] is where it starts in the folder, part[1] its length in bytes; both are 0 where the model check
+ * refuses with 1, 2 or 3, or there is no such body or record. part[0] + part[1] is at most model_len.
  */
 void laguipy_record_part(const uint8_t *model, size_t model_len, size_t body, size_t record, size_t part[2]);
 
 /*
- * The graph check: the model's rows, then 12 to 25. Accepted, `values` holds the root value and the counts, as the enum
+ * The graph check: refusals 1 to 11, then 12 to 25. Accepted, `values` holds the root value and the counts, as the enum
  * above numbers them; refused, zeros.
  */
 size_t laguipy_graph_check(const uint8_t *model, size_t model_len, const uint8_t *graph, size_t graph_len,
@@ -99,7 +105,7 @@ size_t laguipy_figure(const uint8_t *model, size_t model_len, const uint8_t *gra
 
 /*
  * The step of a state by a branch of a command, also from a target. The new state, one value per variable, stands first
- * in `result`, whose later elements stay. Refused, by the model check or by rows 29 to 33, all of them stay.
+ * in `result`, whose later elements stay. Refused, with 1 to 11 or 29 to 33, all of them stay.
  */
 size_t laguipy_step(const uint8_t *model, size_t model_len, const int16_t *state, size_t state_len, size_t command,
                     size_t branch, int16_t *result, size_t result_len, size_t *place);

@@ -38,7 +38,8 @@
 //!   many seeds the tests take);
 //! - `tests/against_reference.rs`: every call compared with the plain one;
 //! - `examples/check.rs`: prints the check program's report, without its limit of
-//!   65,536 bytes; `examples/bench.rs`: how long both take on the largest inputs.
+//!   65,536 bytes; `examples/bench.rs`: how long the calls and the plain ones take
+//!   on the largest inputs.
 
 /// Certainty, in units.
 pub const CERTAIN: u32 = 1_000_000_000;
@@ -156,11 +157,11 @@ fn outcome(number: usize, place: usize) -> Result<(), Refusal> {
     }
 }
 
-/// The model check: rows 1 to 11 of the table.
+/// The model check: refusals 1 to 11 (docs/REFUSALS.md).
 ///
 /// # Errors
 ///
-/// The first broken row, at its lowest broken place.
+/// The first of them that applies, at its lowest place.
 pub fn model_check(model: &[u8]) -> Result<(), Refusal> {
     let mut place = 0;
     // SAFETY: the pointers are of a slice with its length and of a local, and are
@@ -170,9 +171,9 @@ pub fn model_check(model: &[u8]) -> Result<(), Refusal> {
 }
 
 /// The view: a record of the model folder, by the number of its body (0 terms, 1
-/// variables, 2 expressions, 3 commands, 4 branches) and its own. Where the folder
-/// breaks row 1, 2 or 3, or there is no such body or record, the empty part at the
-/// folder's start.
+/// variables, 2 expressions, 3 commands, 4 branches) and its own. Where the model
+/// check refuses with 1, 2 or 3, or there is no such body or record, the empty part
+/// at the folder's start.
 pub fn record_part(model: &[u8], body: usize, record: usize) -> &[u8] {
     let mut part = [0; 2];
     // SAFETY: as in `model_check`.
@@ -181,12 +182,12 @@ pub fn record_part(model: &[u8], body: usize, record: usize) -> &[u8] {
     model.get(start..).and_then(|rest| rest.get(..length)).unwrap_or(&model[..0])
 }
 
-/// The graph check: the model's rows, then 12 to 25.
+/// The graph check: refusals 1 to 11, then 12 to 25.
 ///
 /// # Errors
 ///
-/// The first broken row, at its lowest broken place; but rows 18 to 25 are
-/// finished for one node before the next.
+/// The first of them that applies, at its lowest place; but 18 to 25 are finished
+/// for one node before the next.
 pub fn graph_check(model: &[u8], graph: &[u8]) -> Result<Summary, Refusal> {
     let (mut place, mut values) = (0, [0; 5]);
     // SAFETY: as in `model_check`; the two locals are apart.
@@ -272,8 +273,8 @@ pub fn figure_rows(
 
 /// The figures for `h` steps, as [`figure_rows`] leaves them: the part of a row
 /// that holds them, one per node. Each is an upper bound of the best chance, from
-/// that node's states, to reach a target within `h` steps, and at most `h` units
-/// above it.
+/// that node's concrete state, to reach a target within `h` steps, and at most `h`
+/// units above it.
 ///
 /// # Errors
 ///

@@ -19,6 +19,7 @@ use Rattle.model.specs.Chances.{mdp}
 use Rattle.graph.specs.Limits.{mostBytes, units}
 use Rattle.graph.specs.Simulation.{Simulation, edgeAt, nodeSize, nodeCount, simulationOf, graph}
 use Rattle.graph.specs.Rules.{valueFits}
+use Rattle.graph.specs.Simulation.{edgeAfter}
 use Rattle.rounds.specs.Edges.{sumAt, after, EdgesReady, sumOf}
 use Rattle.folder.specs.Tab.{fill}
 use Rattle.rounds.proofs.ModelLaws.{after-is, edges-ready, sum-is}
@@ -27,7 +28,7 @@ use Rattle.labels.proofs.Tests.{all-same}
 use Rattle.labels.proofs.RuleLaws.{Parts}
 
 pub first-spot : (cs eb : List ℕ) (at : ℕ) → at ≡ after cs eb at 0
-unfolding after
+unfolding edgeAfter
 first-spot cs eb at = refl
 
 -- The edge at k, e edges after the one at `at`: c is its command, n the count of its branches and t its sum.
@@ -42,12 +43,12 @@ body-short g e = simp (length-take, length-drop) (omega arith)
 
 -- ---- the row of the folder's values
 module _ {m g nb : List ℕ} {vars : ℕ} (P : Parts m g vars nb) where
-  pub nodes-within : {k : ℕ} → nodeCount (modelOf m) g ≤ k → countOf (nodeSize vars) nb ≤ k
-  nodes-within h = rw (P .variables, P .nodes) h
+  pub nodes-within : {size k : ℕ} → size ≡ nodeSize vars → nodeCount (modelOf m) g ≤ k → countOf size nb ≤ k
+  nodes-within z h = rw (z, P .variables, P .nodes) h
 
-  pub values-are : (d : List ℕ) {row : List ℕ} → row ≡ fill (countOf (nodeSize vars) nb) (λ i. field4 (nodeSize vars) nb i 2) d
+  pub values-are : (d : List ℕ) {size : ℕ} {row : List ℕ} → size ≡ nodeSize vars → row ≡ fill (countOf size nb) (λ i. field4 size nb i 2) d
       → row ≡ fill (nodeCount (modelOf m) g) (simulationOf (modelOf m) g .value) d
-  values-are d e = e ∙ rw (P .variables, P .nodes) refl
+  values-are d z e = e ∙ rw (z, P .variables, P .nodes) refl
 
 -- ---- the rule of node n
 module _ {m g values weights firsts : List ℕ} {n at : ℕ} (A : ValueReady m g values weights firsts n at) where

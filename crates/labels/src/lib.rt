@@ -27,7 +27,7 @@ fn node_field(nb: &[u8], vars: usize, n: usize, f: usize) -> usize
     requires { ⌜ (vars ≤ mostVariables) × (n ≤ 65536) × (f ≤ 65536) ⌝ }
     ensures { λ r. ⌜ (r ≡ field (nodeSize vars) (now (nb .entry)) n f) × (r < 65536) ⌝ }
 {
-    folder::field(12 + 4 * vars, nb, n, f)
+    folder::field(graph::node_size(vars), nb, n, f)
 }
 
 // Two signed fields are equal where their bits are.
@@ -92,7 +92,7 @@ pub fn c3(m: &[u8], g: &[u8], n: usize) -> bool
     let vars = model::variable_count(m);
     let nb = folder::body(g, 0);
     let k = node_field(nb, vars, n, 1);
-    let nodes = folder::count_of(12 + 4 * vars, nb);
+    let nodes = folder::count_of(graph::node_size(vars), nb);
     !(node_field(nb, vars, n, 0) == COVERED)
         | ((k < nodes) & !(node_field(nb, vars, k, 0) == COVERED))
 }
@@ -228,7 +228,7 @@ pub fn fill_values(m: &[u8], g: &[u8], values: &mut [u32])
     ensures { λ _. ⌜ now (values .exit) ≡ fill (nodeCount (modelOf (now (m .entry))) (now (g .entry))) (simulationOf (modelOf (now (m .entry))) (now (g .entry)) .value) (now (values .entry)) ⌝ }
 {
     fill_fields(
-        12 + 4 * model::variable_count(m),
+        graph::node_size(model::variable_count(m)),
         folder::body(g, 0),
         values,
     );

@@ -8,6 +8,7 @@ use lib.ListN.{getD}
 use Rattle.mdp.specs.Sums.{sum, greatest}
 use Rattle.folder.specs.Fields.{u16}
 use Rattle.folder.specs.Contents.{field}
+use Rattle.graph.specs.Simulation.{edgeAfter, edgeSize}
 use Rattle.rounds.specs.Edges.{sumAt, EdgeFits, after, EdgeReady, EdgesReady, sumOf, bestOf}
 
 -- One more part of a sum, and one more value.
@@ -32,7 +33,7 @@ module _ {cs eb weights firsts : List ℕ} {nodes at count : ℕ} (R : EdgesRead
     fits-here = rw (s, q) (ready-here .fits)
 
     pub edge-next : k + (2 + 2 * n) ≡ after cs eb at (e + 1)
-    unfolding after
+    unfolding edgeAfter edgeSize
     edge-next = rw (s, q, p, add-one) refl
 
     pub edge-more : (row : List ℕ) {b t : ℕ} → b ≡ bestOf cs eb weights firsts row at e → t ≡ sumAt weights row eb (getD firsts c 0) n k

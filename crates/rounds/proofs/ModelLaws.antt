@@ -25,7 +25,7 @@ use Rattle.rounds.specs.Rounds.{Tables, Round}
 
 -- The walk is the graph's.
 pub after-is : (m eb : List ℕ) (k j : ℕ) → after (body m 3) eb k j ≡ edgeAfter (modelOf m) eb k j
-unfolding after edgeAfter edgeSize
+unfolding edgeAfter edgeSize
 after-is m eb k zero = refl
 after-is m eb k (suc j) = rw (after-is m eb k j) refl
 

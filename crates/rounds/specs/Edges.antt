@@ -1,12 +1,13 @@
 -- An edge's weighted sum from a table of weights, and the walk over a node's edges, over the bytes.
 -- Assumes nothing.
-use Prim.Native.Nat.{ℕ, zero, suc, _+_, _*_, _≤_, _<_}
-use mathlib.Core.List.{List}
+use Prim.Native.Nat.{ℕ, _+_, _*_, _≤_, _<_}
+use mathlib.Core.List.{List, []}
 use lib.ListN.{length, getD}
 use Rattle.mdp.specs.Sums.{sum, greatest}
 use Rattle.folder.specs.Contents.{field}
 use Rattle.model.specs.Limits.{mostBranches}
-use Rattle.graph.specs.Simulation.{edgeBytes, commandIn, successorIn}
+use Rattle.model.specs.Model.{modelIn}
+use Rattle.graph.specs.Simulation.{edgeBytes, commandIn, successorIn, edgeAfter}
 
 -- The sum of weight × the successor's element of `row`, over the branches of the edge at position k of the edges `eb`;
 -- its `count` weights stand from `first` on.
@@ -27,10 +28,9 @@ branchesIn cs c = field 4 cs c 1
 
 -- The walk over edges.
 module _ (cs eb : List ℕ) where
-  -- Where the edge that is j edges after the one at k stands.
-  unfoldable pub after : ℕ → ℕ → ℕ
-  after k zero = k
-  after k (suc j) = after k j + edgeBytes (branchesIn cs (commandIn eb (after k j)))
+  -- Where the edge that is j edges after the one at k stands: no other body of the model counts.
+  abbrev pub after : ℕ → ℕ → ℕ
+  after = edgeAfter (modelIn [] [] [] cs []) eb
 
   module _ (weights firsts : List ℕ) where
     -- The edge at k fits, and its command has a record and a first branch record.

@@ -137,7 +137,7 @@ fn shape_of(m: &[u8], g: &[u8]) -> Shape
     requires { ⌜ Valid (now m) (now g) ⌝ }
     ensures { λ r. ⌜ Shaped (now (m .entry)) (now (g .entry)) (r .size) (r .nodes) ⌝ }
 {
-    let size = 12 + 4 * model::variable_count(m);
+    let size = graph::node_size(model::variable_count(m));
     let nodes = folder::count_of(size, folder::body(g, 0));
     Shape { size, nodes }
 }

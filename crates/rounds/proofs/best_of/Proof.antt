@@ -1,5 +1,6 @@
 use Prim.Native.Nat.{_≤_, _<_, _-_}
 use mathlib.Core.Path.{_≡_, _∙_}
+use Rattle.graph.specs.Simulation.{edgeAfter}
 use Rattle.rounds.specs.Edges.{after, bestOf}
 use Rattle.rounds.proofs.EdgeLaws.{ready-here, fits-here, edge-next, edge-more}
 use native.Mathlib.Omega.{arith}
@@ -14,7 +15,7 @@ abbrev μ-loop : tie.MeasureT-loop
 μ-loop cs eb weights firsts row at count best₀ k₀ e₀ best k e = count - e
 
 loop-holds : tie.Need-loop-holds Inv-loop μ-loop
-unfolding after bestOf
+unfolding edgeAfter bestOf
 loop-holds c = search needs
 
 u16-in-requires : tie.Need-u16-in-requires Inv-loop μ-loop
