@@ -30,7 +30,7 @@ prints_expected() {
 
 quiet rt staticlib laguipy_c
 quiet cargo test --release --offline --manifest-path bindings/rust/Cargo.toml
-quiet cargo build --release --offline --examples --manifest-path bindings/rust/Cargo.toml
+quiet cargo build --release --offline --example check --manifest-path bindings/rust/Cargo.toml
 prints_expected bindings/rust/target/release/examples/check
 
 quiet cc -std=c99 -O2 -Wall -Wextra -Werror -Iinclude examples/embed/embed.c target/staticlib/liblaguipy_c.a \

@@ -12,7 +12,7 @@ use std::ops::Range;
 
 /// How many inputs the test over seeds takes.
 fn cases() -> u64 {
-    std::env::var("LAGUIPY_CASES").ok().and_then(|count| count.parse().ok()).unwrap_or(200_000)
+    std::env::var("LAGUIPY_CASES").ok().and_then(|count| count.parse().ok()).unwrap_or(120_000)
 }
 
 /// The number of each call's answer, 0 for acceptance.

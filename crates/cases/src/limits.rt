@@ -1,12 +1,12 @@
 // Both sides of each limit.
+use samples::build::contents;
+use samples::build::fields;
+use samples::build::head;
+use samples::sized::hostile_model;
+use samples::sized::sized_graph;
 use solver::ZERO;
 use trials::against::step_case;
 use trials::answers::Kind;
-use trials::build::contents;
-use trials::build::fields;
-use trials::build::head;
-use trials::sized::hostile_model;
-use trials::sized::sized_graph;
 use trials::table::table;
 use trials::tally::hold;
 use trials::tally::judge;

@@ -1,14 +1,14 @@
 // Document 01's example as printed, and each of its cases for proof once by running.
 use graph::GraphAnswer;
 use graph::Summary;
+use samples::build::fold;
+use samples::build::head;
+use samples::build::pedal_graph;
+use samples::build::pedal_model;
 use solver::ZERO;
 use trials::against::box_steps;
 use trials::against::step_case;
 use trials::answers::Kind;
-use trials::build::fold;
-use trials::build::head;
-use trials::build::pedal_graph;
-use trials::build::pedal_model;
 use trials::figured::figures_are;
 use trials::table::table;
 use trials::tally::hold;

@@ -1,17 +1,17 @@
 // Folders varied from the pedal example by a fixed rule. Each accepted model's steps and each accepted graph's bounds are
 // compared with the solver's; of refusals, that a model and its graph agree.
+use samples::build::head;
+use samples::build::pedal_graph;
+use samples::build::pedal_model;
+use samples::build::put16;
+use samples::build::put32;
+use samples::build::set;
 use solver::add;
 use solver::byte;
 use solver::mul;
 use solver::sub;
 use trials::against::bounds;
 use trials::against::box_steps;
-use trials::build::head;
-use trials::build::pedal_graph;
-use trials::build::pedal_model;
-use trials::build::put16;
-use trials::build::put32;
-use trials::build::set;
 use trials::tally::begin_folder;
 use trials::tally::count;
 use trials::tally::hold;

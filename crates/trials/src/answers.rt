@@ -1,20 +1,20 @@
 // What the library answers on the folder that a line's fields describe. Small folders stand in arrays of their own; m
 // and g have room for the longest folders and one byte more.
-use crate::build::change;
-use crate::build::clear;
-use crate::build::head;
-use crate::build::pedal_graph;
-use crate::build::pedal_model;
-use crate::build::put16;
 use crate::figured::units;
 use crate::figured::units_mut;
 use crate::figured::untouched;
-use crate::sized::deep_model;
-use crate::sized::sized_graph;
-use crate::sized::sized_model;
 use crate::tally::number_of;
 use crate::tally::outcome_of;
 use folder::Outcome;
+use samples::build::change;
+use samples::build::clear;
+use samples::build::head;
+use samples::build::pedal_graph;
+use samples::build::pedal_model;
+use samples::build::put16;
+use samples::sized::deep_model;
+use samples::sized::sized_graph;
+use samples::sized::sized_model;
 use solver::field;
 use solver::long;
 use solver::sub;

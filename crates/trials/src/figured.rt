@@ -1,6 +1,6 @@
 // Rows of figures.
-use crate::build::fields;
 use crate::tally::hold;
+use samples::build::fields;
 use solver::long;
 use solver::mul;
 

@@ -2,10 +2,10 @@
 // describe is due to answer, by its number in document 01's table (0 for acceptance) and its place.
 use crate::answers::Kind;
 use crate::answers::answer;
-use crate::build::between;
-use crate::build::fields;
-use crate::build::find;
 use crate::tally::judge;
+use samples::build::between;
+use samples::build::fields;
+use samples::build::find;
 use solver::add;
 use solver::field;
 use solver::mul;

@@ -1,23 +1,24 @@
 use Prim.Native.Nat.{_≤_, _-_}
 use borrow.Author.Needs.{needs}
 use lib.ListN.{length}
-use Rattle.trials.proofs.build.find.Statement.{statement}
-use Rattle.trials.proofs.build.find.Tie as tie
+use mathlib.Core.Path.{_≡_}
+use Rattle.samples.proofs.sized.towers.Statement.{statement}
+use Rattle.samples.proofs.sized.towers.Tie as tie
 
 abbrev Inv-loop : tie.InvT-loop
-Inv-loop s from c i₀ i = 0 ≤ i
+Inv-loop out₀ i₀ out i = (i ≤ 252) × (length out ≡ length out₀)
 
 abbrev μ-loop : tie.MeasureT-loop
-μ-loop s from c i₀ i = length s - i
+μ-loop out₀ i₀ out i = 252 - i
 
-pub find-spec : {M : Type 1} → statement M
-find-spec =
+pub towers-spec : {M : Type 1} → statement M
+towers-spec =
     tie.close
     (tie.spec
     Inv-loop
     μ-loop
     (λ c. search needs)
-    (λ c. search needs)
+    (λ c κs. search needs)
     (λ c. search needs)
     (λ c. search needs)
     (λ c. search needs)

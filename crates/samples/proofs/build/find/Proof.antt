@@ -1,24 +1,23 @@
 use Prim.Native.Nat.{_≤_, _-_}
 use borrow.Author.Needs.{needs}
 use lib.ListN.{length}
-use mathlib.Core.Path.{_≡_}
-use Rattle.trials.proofs.sized.towers.Statement.{statement}
-use Rattle.trials.proofs.sized.towers.Tie as tie
+use Rattle.samples.proofs.build.find.Statement.{statement}
+use Rattle.samples.proofs.build.find.Tie as tie
 
 abbrev Inv-loop : tie.InvT-loop
-Inv-loop out₀ i₀ out i = (i ≤ 252) × (length out ≡ length out₀)
+Inv-loop s from c i₀ i = 0 ≤ i
 
 abbrev μ-loop : tie.MeasureT-loop
-μ-loop out₀ i₀ out i = 252 - i
+μ-loop s from c i₀ i = length s - i
 
-pub towers-spec : {M : Type 1} → statement M
-towers-spec =
+pub find-spec : {M : Type 1} → statement M
+find-spec =
     tie.close
     (tie.spec
     Inv-loop
     μ-loop
     (λ c. search needs)
-    (λ c κs. search needs)
+    (λ c. search needs)
     (λ c. search needs)
     (λ c. search needs)
     (λ c. search needs)

@@ -2,8 +2,8 @@ use Prim.Native.Nat.{_≤_, _-_}
 use borrow.Author.Needs.{needs}
 use lib.ListN.{length}
 use mathlib.Core.Path.{_≡_}
-use Rattle.trials.proofs.build.repeated.Statement.{statement}
-use Rattle.trials.proofs.build.repeated.Tie as tie
+use Rattle.samples.proofs.build.repeated.Statement.{statement}
+use Rattle.samples.proofs.build.repeated.Tie as tie
 
 abbrev Inv-loop : tie.InvT-loop
 Inv-loop out₀ start end n count i₀ out i = (i ≤ count) × (length out ≡ length out₀)

@@ -2,21 +2,22 @@ use Prim.Native.Nat.{_≤_, _-_}
 use borrow.Author.Needs.{needs}
 use lib.ListN.{length}
 use mathlib.Core.Path.{_≡_}
-use Rattle.trials.proofs.build.clear.Statement.{statement}
-use Rattle.trials.proofs.build.clear.Tie as tie
+use Rattle.samples.proofs.build.written.Statement.{statement}
+use Rattle.samples.proofs.build.written.Tie as tie
 
 abbrev Inv-loop : tie.InvT-loop
-Inv-loop out₀ i₀ out i = (i ≤ length out₀) × (length out ≡ length out₀)
+Inv-loop out₀ text q₀ i₀ out q i = (i ≤ length text) × (length out ≡ length out₀)
 
 abbrev μ-loop : tie.MeasureT-loop
-μ-loop out₀ i₀ out i = length out₀ - i
+μ-loop out₀ text q₀ i₀ out q i = length text - i
 
-pub clear-spec : {M : Type 1} → statement M
-clear-spec =
+pub written-spec : {M : Type 1} → statement M
+written-spec =
     tie.close
     (tie.spec
     Inv-loop
     μ-loop
+    (λ c. search needs)
     (λ c. search needs)
     (λ c κs. search needs)
     (λ c. search needs)

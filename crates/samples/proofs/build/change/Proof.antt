@@ -1,23 +1,25 @@
-use Prim.Native.Nat.{_≤_, _-_}
+use Prim.Native.Nat.{_≤_, _-_, _/_}
 use borrow.Author.Needs.{needs}
 use lib.ListN.{length}
 use mathlib.Core.Path.{_≡_}
-use Rattle.trials.proofs.sized.sized_edges.Statement.{statement}
-use Rattle.trials.proofs.sized.sized_edges.Tie as tie
+use Rattle.samples.proofs.build.change.Statement.{statement}
+use Rattle.samples.proofs.build.change.Tie as tie
 
 abbrev Inv-loop : tie.InvT-loop
-Inv-loop out₀ at c b end₀ i₀ out end i = (i ≤ c) × (length out ≡ length out₀)
+Inv-loop out₀ line from n i₀ out i = (i ≤ n / 2) × (length out ≡ length out₀)
 
 abbrev μ-loop : tie.MeasureT-loop
-μ-loop out₀ at c b end₀ i₀ out end i = c - i
+μ-loop out₀ line from n i₀ out i = n / 2 - i
 
-pub sized-edges-spec : {M : Type 1} → statement M
-sized-edges-spec =
+pub change-spec : {M : Type 1} → statement M
+change-spec =
     tie.close
     (tie.spec
     Inv-loop
     μ-loop
     (λ c. search needs)
+    (λ c κs. search needs)
+    (λ c κs. search needs)
     (λ c κs. search needs)
     (λ c κs. search needs)
     (λ c κs. search needs)

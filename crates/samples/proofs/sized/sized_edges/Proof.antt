@@ -1,25 +1,23 @@
-use Prim.Native.Nat.{_-_}
+use Prim.Native.Nat.{_≤_, _-_}
 use borrow.Author.Needs.{needs}
 use lib.ListN.{length}
 use mathlib.Core.Path.{_≡_}
-use Rattle.trials.proofs.sized.deep_entries.Statement.{statement}
-use Rattle.trials.proofs.sized.deep_entries.Tie as tie
+use Rattle.samples.proofs.sized.sized_edges.Statement.{statement}
+use Rattle.samples.proofs.sized.sized_edges.Tie as tie
 
 abbrev Inv-loop : tie.InvT-loop
-Inv-loop out₀ e i₀ out i = length out ≡ length out₀
+Inv-loop out₀ at c b end₀ i₀ out end i = (i ≤ c) × (length out ≡ length out₀)
 
 abbrev μ-loop : tie.MeasureT-loop
-μ-loop out₀ e i₀ out i = e - i
+μ-loop out₀ at c b end₀ i₀ out end i = c - i
 
-pub deep-entries-spec : {M : Type 1} → statement M
-deep-entries-spec =
+pub sized-edges-spec : {M : Type 1} → statement M
+sized-edges-spec =
     tie.close
     (tie.spec
     Inv-loop
     μ-loop
-    (λ c κs. search needs)
     (λ c. search needs)
-    (λ c κs. search needs)
     (λ c κs. search needs)
     (λ c κs. search needs)
     (λ c κs. search needs)
