@@ -1,10 +1,8 @@
-// What the library answers on the folder that a line's fields describe. Small folders stand in arrays of their own; m
-// and g have room for the longest folders and one byte more.
+// What the library answers on the folder that a line's fields describe, built in m or g. Both have room for the folders
+// of the kind, and one byte more.
 use crate::figured::units;
 use crate::figured::units_mut;
 use crate::figured::untouched;
-use crate::tally::number_of;
-use crate::tally::outcome_of;
 use folder::Outcome;
 use samples::build::change;
 use samples::build::clear;
@@ -18,6 +16,8 @@ use samples::sized::sized_model;
 use solver::field;
 use solver::long;
 use solver::sub;
+use tally::number_of;
+use tally::outcome_of;
 
 pub enum Kind {
     // `offset value ..`: the pedal model with these fields.
@@ -44,20 +44,17 @@ pub enum Kind {
 // Stands for a refused figure call that has written.
 const TOUCHED: usize = 99;
 
-fn model_answer(line: &[u8], n: usize) -> Outcome {
-    let mut m = [0u8; 192];
-    let k = pedal_model(&mut m);
-    change(&mut m, line, 0, n);
-    laguipy::model_check(head(&m, k))
+fn model_answer(m: &mut [u8], line: &[u8], n: usize) -> Outcome {
+    let k = pedal_model(m);
+    change(m, line, 0, n);
+    laguipy::model_check(head(m, k))
 }
 
-fn graph_answer(line: &[u8], n: usize) -> Outcome {
-    let mut m = [0u8; 192];
-    let mut g = [0u8; 192];
-    let k = pedal_model(&mut m);
-    let l = pedal_graph(&mut g);
-    change(&mut g, line, 0, n);
-    outcome_of(laguipy::graph_check(head(&m, k), head(&g, l)))
+fn graph_answer(m: &mut [u8], g: &mut [u8], line: &[u8], n: usize) -> Outcome {
+    let k = pedal_model(m);
+    let l = pedal_graph(g);
+    change(g, line, 0, n);
+    outcome_of(laguipy::graph_check(head(m, k), head(g, l)))
 }
 
 fn told_on_rows(m: &[u8], g: &[u8], line: &[u8]) -> Outcome {
@@ -89,16 +86,14 @@ fn made_on_rows(m: &[u8], g: &[u8], line: &[u8]) -> Outcome {
     folder::refuse(TOUCHED, 0)
 }
 
-fn figure_answer(line: &[u8], made: bool) -> Outcome {
-    let mut m = [0u8; 192];
-    let mut g = [0u8; 192];
-    let k = pedal_model(&mut m);
-    let l = pedal_graph(&mut g);
-    put16(&mut g, 116, field(line, 6));
+fn figure_answer(m: &mut [u8], g: &mut [u8], line: &[u8], made: bool) -> Outcome {
+    let k = pedal_model(m);
+    let l = pedal_graph(g);
+    put16(g, 116, field(line, 6));
     if made {
-        made_on_rows(head(&m, k), head(&g, l), line)
+        made_on_rows(head(m, k), head(g, l), line)
     } else {
-        told_on_rows(head(&m, k), head(&g, l), line)
+        told_on_rows(head(m, k), head(g, l), line)
     }
 }
 
@@ -107,11 +102,10 @@ fn length_answer(m: &mut [u8], line: &[u8]) -> Outcome {
     laguipy::model_check(head(m, field(line, 0)))
 }
 
-fn graph_length_answer(g: &mut [u8], line: &[u8]) -> Outcome {
-    let mut m = [0u8; 192];
-    let k = pedal_model(&mut m);
+fn graph_length_answer(m: &mut [u8], g: &mut [u8], line: &[u8]) -> Outcome {
+    let k = pedal_model(m);
     clear(g);
-    outcome_of(laguipy::graph_check(head(&m, k), head(g, long(line, 0))))
+    outcome_of(laguipy::graph_check(head(m, k), head(g, long(line, 0))))
 }
 
 fn sized_answer(m: &mut [u8], line: &[u8], n: usize) -> Outcome {
@@ -160,12 +154,12 @@ fn deep_answer(m: &mut [u8], line: &[u8]) -> Outcome {
 // n fields of the line describe the folder.
 pub fn answer(kind: Kind, m: &mut [u8], g: &mut [u8], line: &[u8], n: usize) -> Outcome {
     match kind {
-        Kind::Model => model_answer(line, n),
-        Kind::Graph => graph_answer(line, n),
-        Kind::FigureTold => figure_answer(line, false),
-        Kind::Figure => figure_answer(line, true),
+        Kind::Model => model_answer(m, line, n),
+        Kind::Graph => graph_answer(m, g, line, n),
+        Kind::FigureTold => figure_answer(m, g, line, false),
+        Kind::Figure => figure_answer(m, g, line, true),
         Kind::Length => length_answer(m, line),
-        Kind::GraphLength => graph_length_answer(g, line),
+        Kind::GraphLength => graph_length_answer(m, g, line),
         Kind::Sized => sized_answer(m, line, n),
         Kind::SizedGraph => sized_graph_answer(m, g, line, n),
         Kind::LongFigure => long_answer(m, g, line),

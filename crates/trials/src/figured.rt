@@ -1,8 +1,8 @@
 // Rows of figures.
-use crate::tally::hold;
 use samples::build::fields;
 use solver::long;
 use solver::mul;
+use tally::hold;
 
 fn wide(x: u32) -> usize {
     x as usize

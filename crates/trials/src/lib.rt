@@ -1,7 +1,4 @@
-// What the cases are judged by: tables of cases, the tally, and the library against the solver. Safe and ending on any
-// arguments; its contracts say no more.
-pub mod against;
+// Tables of cases, and what the library answers on each. Safe and ending on any arguments; its contracts say no more.
 pub mod answers;
 pub mod figured;
 pub mod table;
-pub mod tally;

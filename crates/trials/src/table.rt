@@ -2,7 +2,6 @@
 // describe is due to answer, by its number in document 01's table (0 for acceptance) and its place.
 use crate::answers::Kind;
 use crate::answers::answer;
-use crate::tally::judge;
 use samples::build::between;
 use samples::build::fields;
 use samples::build::find;
@@ -10,6 +9,7 @@ use solver::add;
 use solver::field;
 use solver::mul;
 use solver::sub;
+use tally::judge;
 
 // The number and the place that end a line of n fields.
 fn due(line: &[u8], n: usize, i: usize) -> usize {

@@ -1,16 +1,16 @@
 use Prim.Native.Nat.{_≤_, _-_}
 use borrow.Author.Needs.{needs}
-use Rattle.trials.proofs.against.same_rows.Statement.{statement}
-use Rattle.trials.proofs.against.same_rows.Tie as tie
+use Rattle.varied.proofs.families.Statement.{statement}
+use Rattle.varied.proofs.families.Tie as tie
 
 abbrev Inv-loop : tie.InvT-loop
-Inv-loop a b i₀ i = i ≤ 16
+Inv-loop t₀ i₀ t i = i ≤ 144
 
 abbrev μ-loop : tie.MeasureT-loop
-μ-loop a b i₀ i = 16 - i
+μ-loop t₀ i₀ t i = 144 - i
 
-pub same-rows-spec : {M : Type 1} → statement M
-same-rows-spec =
+pub families-spec : {M : Type 1} → statement M
+families-spec =
     tie.close
     (tie.spec
     Inv-loop
@@ -19,8 +19,11 @@ same-rows-spec =
     (λ c. search needs)
     (λ c. search needs)
     (λ c. search needs)
+    (λ c κs. search needs)
+    (λ c κs. search needs)
     (λ c. search needs)
-    (λ c. search needs)
+    (λ c κs. search needs)
+    (λ c κs. search needs)
     (λ c. search needs)
     (λ c. search needs)
     (λ c. search needs)

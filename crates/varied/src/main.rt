@@ -1,5 +1,5 @@
-// Folders varied from the pedal example by a fixed rule. Each accepted model's steps and each accepted graph's bounds are
-// compared with the solver's; of refusals, that a model and its graph agree.
+// Runs the library on folders varied from the pedal example by a fixed rule. Each accepted model's steps and each
+// accepted graph's bounds are compared with the solver's; of refusals, that a model and its graph agree.
 use samples::build::head;
 use samples::build::pedal_graph;
 use samples::build::pedal_model;
@@ -10,15 +10,15 @@ use solver::add;
 use solver::byte;
 use solver::mul;
 use solver::sub;
-use trials::against::bounds;
-use trials::against::box_steps;
-use trials::tally::begin_folder;
-use trials::tally::count;
-use trials::tally::hold;
-use trials::tally::judge;
-use trials::tally::number_of;
-use trials::tally::outcome_of;
-use trials::tally::place_of;
+use tally::begin_folder;
+use tally::count;
+use tally::hold;
+use tally::judge;
+use tally::number_of;
+use tally::outcome_of;
+use tally::place_of;
+use witness::bounds;
+use witness::box_steps;
 
 // A byte in another way: one more, one less, its highest bit, or all its bits turned round.
 fn varied_byte(b: usize, way: usize) -> usize {
@@ -186,8 +186,13 @@ fn families(t: &mut [usize; 40]) {
     }
 }
 
-pub fn run(t: &mut [usize; 40]) {
-    models(t);
-    graphs(t);
-    families(t);
+fn main() {
+    let mut t = [0; 40];
+    models(&mut t);
+    tally::close_group(&mut t, b"models with a byte changed");
+    graphs(&mut t);
+    tally::close_group(&mut t, b"graphs with a byte changed");
+    families(&mut t);
+    tally::close_group(&mut t, b"weights, with their least values");
+    tally::say_table(&t);
 }

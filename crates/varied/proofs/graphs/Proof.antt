@@ -1,26 +1,21 @@
 use Prim.Native.Nat.{_≤_, _-_}
 use borrow.Author.Needs.{needs}
-use Rattle.cases.proofs.varied.families.Statement.{statement}
-use Rattle.cases.proofs.varied.families.Tie as tie
+use Rattle.varied.proofs.graphs.Statement.{statement}
+use Rattle.varied.proofs.graphs.Tie as tie
 
 abbrev Inv-loop : tie.InvT-loop
-Inv-loop t₀ i₀ t i = i ≤ 144
+Inv-loop t₀ i₀ t i = i ≤ 608
 
 abbrev μ-loop : tie.MeasureT-loop
-μ-loop t₀ i₀ t i = 144 - i
+μ-loop t₀ i₀ t i = 608 - i
 
-pub families-spec : {M : Type 1} → statement M
-families-spec =
+pub graphs-spec : {M : Type 1} → statement M
+graphs-spec =
     tie.close
     (tie.spec
     Inv-loop
     μ-loop
     (λ c. search needs)
-    (λ c. search needs)
-    (λ c. search needs)
-    (λ c. search needs)
-    (λ c κs. search needs)
-    (λ c κs. search needs)
     (λ c. search needs)
     (λ c κs. search needs)
     (λ c κs. search needs)

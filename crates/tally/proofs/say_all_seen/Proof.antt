@@ -1,7 +1,7 @@
 use Prim.Native.Nat.{_≤_, _-_}
 use borrow.Author.Needs.{needs}
-use Rattle.trials.proofs.tally.say_all_seen.Statement.{statement}
-use Rattle.trials.proofs.tally.say_all_seen.Tie as tie
+use Rattle.tally.proofs.say_all_seen.Statement.{statement}
+use Rattle.tally.proofs.say_all_seen.Tie as tie
 
 abbrev Inv-loop : tie.InvT-loop
 Inv-loop t i₀ i = i ≤ 34

@@ -1,16 +1,16 @@
 use Prim.Native.Nat.{_≤_, _-_}
 use borrow.Author.Needs.{needs}
-use Rattle.trials.proofs.against.row_of.Statement.{statement}
-use Rattle.trials.proofs.against.row_of.Tie as tie
+use Rattle.witness.proofs.same_rows.Statement.{statement}
+use Rattle.witness.proofs.same_rows.Tie as tie
 
 abbrev Inv-loop : tie.InvT-loop
-Inv-loop s n row₀ i₀ row i = i ≤ 16
+Inv-loop a b i₀ i = i ≤ 16
 
 abbrev μ-loop : tie.MeasureT-loop
-μ-loop s n row₀ i₀ row i = 16 - i
+μ-loop a b i₀ i = 16 - i
 
-pub row-of-spec : {M : Type 1} → statement M
-row-of-spec =
+pub same-rows-spec : {M : Type 1} → statement M
+same-rows-spec =
     tie.close
     (tie.spec
     Inv-loop
@@ -18,7 +18,7 @@ row-of-spec =
     (λ c. search needs)
     (λ c. search needs)
     (λ c. search needs)
-    (λ c κs. search needs)
+    (λ c. search needs)
     (λ c. search needs)
     (λ c. search needs)
     (λ c. search needs)

@@ -1,15 +1,16 @@
-// The library's steps, figures and root values against the solver's.
-use crate::tally::BOUNDS;
-use crate::tally::STEPS;
-use crate::tally::TOO_BIG;
-use crate::tally::count;
-use crate::tally::hold;
-use crate::tally::judge;
-use crate::tally::number_of;
+// The library's steps, figures and root values against the solver's. Safe and ending on any arguments; its contracts
+// say no more.
 use solver::Trial;
 use solver::ZERO;
 use solver::add;
 use solver::sub;
+use tally::BOUNDS;
+use tally::STEPS;
+use tally::TOO_BIG;
+use tally::count;
+use tally::hold;
+use tally::judge;
+use tally::number_of;
 
 // The rows beyond a result, and a refused step's, keep this.
 const KEPT: i16 = 7;

@@ -1,24 +1,26 @@
 use Prim.Native.Nat.{_≤_, _-_}
 use borrow.Author.Needs.{needs}
-use Rattle.cases.proofs.varied.models.Statement.{statement}
-use Rattle.cases.proofs.varied.models.Tie as tie
+use Rattle.witness.proofs.row_of.Statement.{statement}
+use Rattle.witness.proofs.row_of.Tie as tie
 
 abbrev Inv-loop : tie.InvT-loop
-Inv-loop t₀ i₀ t i = i ≤ 712
+Inv-loop s n row₀ i₀ row i = i ≤ 16
 
 abbrev μ-loop : tie.MeasureT-loop
-μ-loop t₀ i₀ t i = 712 - i
+μ-loop s n row₀ i₀ row i = 16 - i
 
-pub models-spec : {M : Type 1} → statement M
-models-spec =
+pub row-of-spec : {M : Type 1} → statement M
+row-of-spec =
     tie.close
     (tie.spec
     Inv-loop
     μ-loop
     (λ c. search needs)
     (λ c. search needs)
+    (λ c. search needs)
     (λ c κs. search needs)
-    (λ c κs. search needs)
+    (λ c. search needs)
+    (λ c. search needs)
     (λ c. search needs)
     (λ c. search needs)
     (λ c. search needs)

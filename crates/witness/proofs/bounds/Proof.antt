@@ -1,7 +1,7 @@
 use Prim.Native.Nat.{_≤_, _-_}
 use borrow.Author.Needs.{needs}
-use Rattle.trials.proofs.against.bounds.Statement.{statement}
-use Rattle.trials.proofs.against.bounds.Tie as tie
+use Rattle.witness.proofs.bounds.Statement.{statement}
+use Rattle.witness.proofs.bounds.Tie as tie
 
 abbrev Inv-loop : tie.InvT-loop
 Inv-loop t₀ m g h₀ t h = h ≤ 5

@@ -1,20 +1,21 @@
 use Prim.Native.Nat.{_≤_, _-_}
 use borrow.Author.Needs.{needs}
-use Rattle.trials.proofs.against.box_steps.Statement.{statement}
-use Rattle.trials.proofs.against.box_steps.Tie as tie
+use Rattle.varied.proofs.models.Statement.{statement}
+use Rattle.varied.proofs.models.Tie as tie
 
 abbrev Inv-loop : tie.InvT-loop
-Inv-loop t₀ m j₀ t j = j ≤ 216
+Inv-loop t₀ i₀ t i = i ≤ 712
 
 abbrev μ-loop : tie.MeasureT-loop
-μ-loop t₀ m j₀ t j = 216 - j
+μ-loop t₀ i₀ t i = 712 - i
 
-pub box-steps-spec : {M : Type 1} → statement M
-box-steps-spec =
+pub models-spec : {M : Type 1} → statement M
+models-spec =
     tie.close
     (tie.spec
     Inv-loop
     μ-loop
+    (λ c. search needs)
     (λ c. search needs)
     (λ c κs. search needs)
     (λ c κs. search needs)

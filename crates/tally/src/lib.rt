@@ -1,7 +1,7 @@
 // The tally of a run: at 0 to 33 how often each answer was seen, by its number (0 for acceptance); after them the cases
 // of the group that is being run, and of all groups the wrong ones, the steps compared with the solver's, the bounds
 // tried and those whose numbers are past 64 bits; last the varied folder that is being tried, or 0. What is wrong is
-// named as it is found.
+// named as it is found. Safe and ending on any arguments; its contracts say no more.
 use folder::Outcome;
 use graph::GraphAnswer;
 use solver::add;
@@ -118,12 +118,25 @@ pub fn close_group(t: &mut [usize; 40], name: &[u8]) {
     t[CASES] = 0;
 }
 
-// How often the answer k was seen.
-fn say_seen(t: &[usize; 40], k: usize) {
-    say_number(k);
+// A count that is not 0.
+fn say_count(t: &[usize; 40], name: &[u8], k: usize) {
+    if counted(t, k) == 0 {
+        return;
+    }
+    say(name);
     say(b": ");
     say_number(counted(t, k));
     say(b"\n");
+}
+
+// How often the refusal k was seen, if it was.
+fn say_seen(t: &[usize; 40], k: usize) {
+    if counted(t, k) == 0 {
+        return;
+    }
+    say(b"refused ");
+    say_number(k);
+    say_count(t, b"", k);
 }
 
 fn say_all_seen(t: &[usize; 40]) {
@@ -134,18 +147,10 @@ fn say_all_seen(t: &[usize; 40]) {
     }
 }
 
-fn say_count(t: &[usize; 40], name: &[u8], k: usize) {
-    say(name);
-    say(b": ");
-    say_number(counted(t, k));
-    say(b"\n");
-}
-
 pub fn say_table(t: &[usize; 40]) {
     say_count(t, b"steps compared with the solver's", STEPS);
     say_count(t, b"bounds tried by the solver", BOUNDS);
     say_count(t, b"bounds past 64 bits, not tried", TOO_BIG);
-    say(b"refusal number: how many times seen\n");
     say_count(t, b"accepted", 0);
     say_all_seen(t);
     say_number(counted(t, WRONG));

@@ -1,21 +1,20 @@
 use Prim.Native.Nat.{_≤_, _-_}
 use borrow.Author.Needs.{needs}
-use Rattle.cases.proofs.varied.graphs.Statement.{statement}
-use Rattle.cases.proofs.varied.graphs.Tie as tie
+use Rattle.witness.proofs.box_steps.Statement.{statement}
+use Rattle.witness.proofs.box_steps.Tie as tie
 
 abbrev Inv-loop : tie.InvT-loop
-Inv-loop t₀ i₀ t i = i ≤ 608
+Inv-loop t₀ m j₀ t j = j ≤ 216
 
 abbrev μ-loop : tie.MeasureT-loop
-μ-loop t₀ i₀ t i = 608 - i
+μ-loop t₀ m j₀ t j = 216 - j
 
-pub graphs-spec : {M : Type 1} → statement M
-graphs-spec =
+pub box-steps-spec : {M : Type 1} → statement M
+box-steps-spec =
     tie.close
     (tie.spec
     Inv-loop
     μ-loop
-    (λ c. search needs)
     (λ c. search needs)
     (λ c κs. search needs)
     (λ c κs. search needs)
