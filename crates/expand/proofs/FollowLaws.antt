@@ -82,7 +82,7 @@ module _ {m g : List ℕ} {n : ℕ} {cs eb : List ℕ} {edges e p c branches : �
   branches-are = read .branching ∙ ap₂ (λ (b : List ℕ) (i : ℕ). field 4 b i 1) (read .commands-in) command-is
 
   command-there : simulationOf (modelOf m) g .command n e < modelOf m .commands
-  command-there = node .rows .edges n (node .there) e (omega (arith, read .within, read .count)) .command
+  command-there = node .rows .content .edges n (node .there) e (omega (arith, read .within, read .count)) .command
 
   pub next-stands : p + (2 + 2 * branches) ≡ edgeAt (modelOf m) g n (e + 1)
   unfolding edgeSize

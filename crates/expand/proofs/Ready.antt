@@ -77,8 +77,8 @@ module _ {m g : List ℕ} {n : ℕ} (node : NodeOf m g n) where
   inside : (i : ℕ) → In (bound M i) (valueOf (concreteState M G n) i)
   inside = in-bounds M (concreteState M G n) (record {
     long = length-tab (M .variables) (G .concrete n);
-    low = λ v l. rw (getD-tab (pos 0) (M .variables) (G .concrete n) v l) (node .rows .nodes n (node .there) .low v l);
-    high = λ v l. rw (getD-tab (pos 0) (M .variables) (G .concrete n) v l) (node .rows .nodes n (node .there) .high v l);
+    low = λ v l. rw (getD-tab (pos 0) (M .variables) (G .concrete n) v l) (node .rows .content .nodes n (node .there) .low v l);
+    high = λ v l. rw (getD-tab (pos 0) (M .variables) (G .concrete n) v l) (node .rows .content .nodes n (node .there) .high v l);
   })
 
   pub state-grounded : Grounded (M .entries) (concreteState M G n)
@@ -109,7 +109,7 @@ module _ {m g : List ℕ} {n : ℕ} (node : NodeOf m g n) where
   small-set : G .tracked n < 2 ^ M .variables
   small-set =
       let some : 0 < 2 ^ M .variables = omega (arith, one-le-pow (M .variables) 2 (omega arith)) in
-      omega (arith, div-lt-iff-lt-mul {k = 2 ^ M .variables} {x = G .tracked n} {y = 1} some .0 (omega (arith, node .rows .nodes n (node .there) .bits)))
+      omega (arith, div-lt-iff-lt-mul {k = 2 ^ M .variables} {x = G .tracked n} {y = 1} some .0 (omega (arith, node .rows .content .nodes n (node .there) .bits)))
 
   tracked-there : (i : ℕ) → tracks G n i ≡ true → i < M .variables
   tracked-there i t = go (decLt i (M .variables))

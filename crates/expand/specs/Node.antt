@@ -12,7 +12,7 @@ use Rattle.model.specs.Model.{modelOf, firstRecord}
 use Rattle.model.specs.Valid.{Valid}
 use Rattle.graph.specs.Simulation.{nodeCount, simulationOf}
 use Rattle.graph.specs.Labels.{look, concreteState}
-use Rattle.graph.specs.Rows.{RowsRight}
+use Rattle.graph.specs.Valid.{RowsRight}
 
 module _ (m g : List ℕ) (n : ℕ) where
   -- The model folder m is accepted, rows 12 to 17 hold of the graph folder g, and n is one of its nodes.

@@ -41,9 +41,13 @@ arithR Larger a b = span (maxZ (a .low) (b .low)) (maxZ (a .high) (b .high))
 abbrev pub hull : Range → Range → Range
 hull a b = span (minZ (a .low) (b .low)) (maxZ (a .high) (b .high))
 
--- The range of variable v of a variable body, whose records are low, high and initial; past the last, 0 to 0.
+-- The range of variable v of n, from its low to its high; past the last, 0 to 0.
+abbrev pub boundOf : ℕ → (ℕ → ℤ) → (ℕ → ℤ) → ℕ → Range
+boundOf n low high v = pick (ltb v n) (span (low v) (high v)) (span (pos 0) (pos 0))
+
+-- Of a variable body, whose records are low, high and initial.
 unfoldable pub boundIn : List ℕ → ℕ → Range
-boundIn y v = pick (ltb v (countOf 6 y)) (span (signedField 6 y v 0) (signedField 6 y v 1)) (span (pos 0) (pos 0))
+boundIn y v = boundOf (countOf 6 y) (λ i. signedField 6 y i 0) (λ i. signedField 6 y i 1) v
 
 -- `bound i` is the range of variable i. A truth has no range.
 abbrev pub ranging : (ℕ → Range) → Interpretation Range (Unit {0})

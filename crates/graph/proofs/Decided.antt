@@ -35,11 +35,11 @@ use Rattle.graph.specs.Limits.{leastBytes, mostBytes, mostNodes, units, 
 use Rattle.graph.specs.Simulation.{Simulation, bodies, nodeSize, nodeCount, simulationOf, graph}
 use Rattle.graph.specs.Labels.{tracks, concreteState, numberOf, truthOf}
 use Rattle.graph.specs.Rules.{bytesFit, nodesFit, headFits, valuesFit, nodeFits, edgeFits, edgesFit, rootFits, A1, A2, enabledIn, B1, resultIs, labelFollows, follows, edgeFollows, B2, C3, C1, C2, valueFits}
-use Rattle.graph.specs.Table.{folderRows, nodeRules, contentRows, graphRows, graphOutcome}
+use Rattle.graph.specs.Table.{folderRows, contentRows, firstRows, nodeRules, ruleRows, graphRows, graphOutcome}
 use Rattle.model.specs.Table.{modelRows}
 use Rattle.model.proofs.Decided.{model-asks}
 use Rattle.graph.specs.Figures.{figureRows, figureOutcome}
-use Rattle.graph.specs.Valid.{FigureRight, FolderRight, NodeRight, EdgeRight, StartsInitial, RightA1, RightA2, RightB1, Follows, RightB2, RightC3, RightC1, RightC2, RightValue, GraphRight, Valid}
+use Rattle.graph.specs.Valid.{FigureRight, FolderRight, NodeRight, EdgeRight, StartsInitial, RightA1, RightA2, RightB1, Follows, RightB2, RightC3, RightC1, RightC2, RightValue, ContentRight, RulesRight, RowsRight, Valid}
 
 -- ---- the readings
 known-decided : (t : Truth) → Decides (t ≢ Unknown) (isKnown t)
@@ -208,52 +208,52 @@ module _ (M : Model) (G : Simulation) where
       ∧also value-decided (G .value) n
       ∧also always
 
-  content-asks : AllHold (contentRows M G) ↔ GraphRight M G
+  content-asks : AllHold (contentRows M G) ↔ ContentRight M G
   content-asks = put-so
-      (row-asks _ node-decided
-      row-and row-asks _ edges-decided
-      row-and single-asks 17 0 root-decided
-      row-and row-asks _ rules-decided
-      row-and no-rows)
+      (row-asks _ node-decided row-and row-asks _ edges-decided row-and single-asks 17 0 root-decided row-and no-rows)
       (λ h. record {
         nodes = h .0;
         edges = λ n l. h .1 .0 n (omega arith) .0 l;
         spent = h .1 .0 (G .nodes) (omega arith) .1 (λ l. omega arith);
         initial = h .1 .1 .0;
-        a1 = λ n l. h .1 .1 .1 .0 n l .0;
-        a2 = λ n l. h .1 .1 .1 .0 n l .1 .0;
-        b1 = λ n l. h .1 .1 .1 .0 n l .1 .1 .0;
-        b2 = λ n l. h .1 .1 .1 .0 n l .1 .1 .1 .0;
-        c3 = λ n l. h .1 .1 .1 .0 n l .1 .1 .1 .1 .0;
-        c1 = λ n l. h .1 .1 .1 .0 n l .1 .1 .1 .1 .1 .0;
-        c2 = λ n l. h .1 .1 .1 .0 n l .1 .1 .1 .1 .1 .1 .0;
-        values = λ n l. h .1 .1 .1 .0 n l .1 .1 .1 .1 .1 .1 .1 .0;
       })
-      (λ r. (
-        r .nodes,
-        (
-          (λ n l. (r .edges n, λ h. r .spent)),
-          (
-            r .initial,
-            ((λ n l. (r .a1 n l, (r .a2 n l, (r .b1 n l, (r .b2 n l, (r .c3 n l, (r .c1 n l, (r .c2 n l, (r .values n l, tt))))))))), tt),
-          ),
-        ),
-      ))
+      (λ r. (r .nodes, ((λ n l. (r .edges n, λ h. r .spent)), (r .initial, tt))))
 
-pub folder-asks : (M : Model) (g : List ℕ) → AllHold (folderRows M g) ↔ FolderRight M g
+  rules-ask : AllHold (ruleRows M G) ↔ RulesRight M G
+  rules-ask = put-so
+      (row-asks _ rules-decided row-and no-rows)
+      (λ h. record {
+        a1 = λ n l. h .0 n l .0;
+        a2 = λ n l. h .0 n l .1 .0;
+        b1 = λ n l. h .0 n l .1 .1 .0;
+        b2 = λ n l. h .0 n l .1 .1 .1 .0;
+        c3 = λ n l. h .0 n l .1 .1 .1 .1 .0;
+        c1 = λ n l. h .0 n l .1 .1 .1 .1 .1 .0;
+        c2 = λ n l. h .0 n l .1 .1 .1 .1 .1 .1 .0;
+        values = λ n l. h .0 n l .1 .1 .1 .1 .1 .1 .1 .0;
+      })
+      (λ r. ((λ n l. (r .a1 n l, (r .a2 n l, (r .b1 n l, (r .b2 n l, (r .c3 n l, (r .c1 n l, (r .c2 n l, (r .values n l, tt))))))))), tt))
+
+folder-asks : (M : Model) (g : List ℕ) → AllHold (folderRows M g) ↔ FolderRight M g
 folder-asks M g = put-so
     (single-asks 12 0 (bytes-decided g) row-and row-asks _ (contents-decided g bodies) row-and single-asks 14 0 (nodes-decided M g) row-and no-rows)
     (λ h. record { long = h .0 .0; short = h .0 .1; contents = h .1 .0; whole = h .1 .1 .0 .0 .0; some = h .1 .1 .0 .0 .1; few = h .1 .1 .0 .1 })
     (λ r. ((r .long, r .short), (r .contents, (((r .whole, r .some), r .few), tt))))
 
-rows-ask : (M : Model) (g : List ℕ) → AllHold (graphRows M g) ↔ (FolderRight M g × GraphRight M (simulationOf M g))
-rows-ask M g = tables-ask (folderRows M g) (folder-asks M g) (content-asks M (simulationOf M g))
+pub first-ask : (M : Model) (g : List ℕ) → AllHold (firstRows M g) ↔ RowsRight M g
+first-ask M g = put-so
+    (tables-ask (folderRows M g) (folder-asks M g) (content-asks M (simulationOf M g)))
+    (λ h. record { folder = h .0; content = h .1 })
+    (λ r. (r .folder, r .content))
+
+rows-ask : (M : Model) (g : List ℕ) → AllHold (graphRows M g) ↔ (RowsRight M g × RulesRight M (simulationOf M g))
+rows-ask M g = tables-ask (firstRows M g) (first-ask M g) (rules-ask M (simulationOf M g))
 
 graph-asks : (m g : List ℕ) → AllHold (modelRows m ++ graphRows (modelOf m) g) ↔ Valid m g
 graph-asks m g = put-so
     (tables-ask (modelRows m) (model-asks m) (rows-ask (modelOf m) g))
-    (λ h. record { model = h .0; folder = h .1 .0; graph = h .1 .1 })
-    (λ v. (v .model, (v .folder, v .graph)))
+    (λ h. record { model = h .0; rows = h .1 .0; rules = h .1 .1 })
+    (λ v. (v .model, (v .rows, v .rules)))
 
 -- Demand 2: a graph is accepted if and only if it keeps the rules.
 pub accepted-valid : (m g : List ℕ) → (graphOutcome m g ≡ Accepted) ↔ Valid m g
@@ -285,8 +285,8 @@ pub figure-valid : (m g : List ℕ) (h : ℕ) (first second : List ℕ)
 unfolding figureOutcome
 figure-valid m g h first second = accepted-asks (put-so
     (tables-ask (modelRows m) (model-asks m) (tables-ask (graphRows (modelOf m) g) (rows-ask (modelOf m) g) (figure-asks (simulationOf (modelOf m) g) h first second)))
-    (λ a. (record { model = a .0; folder = a .1 .0 .0; graph = a .1 .0 .1 }, a .1 .1))
-    (λ v. (v .0 .model, ((v .0 .folder, v .0 .graph), v .1))))
+    (λ a. (record { model = a .0; rows = a .1 .0 .0; rules = a .1 .0 .1 }, a .1 .1))
+    (λ v. (v .0 .model, ((v .0 .rows, v .0 .rules), v .1))))
 
 pub figure-refused : (m g : List ℕ) (h : ℕ) (first second : List ℕ) (f : Refusal) → figureOutcome m g h first second ≡ Refused f
     → Broken (modelRows m ++ graphRows (modelOf m) g ++ figureRows (simulationOf (modelOf m) g) h first second) f

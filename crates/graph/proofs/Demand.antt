@@ -40,13 +40,13 @@ module _ (m g : List ℕ) (A : Valid m g) where
   G = simulationOf M g
 
   valid-demand : Demand3 (mdp M) units (graph G) (initialState M) (concreteState M G) (G .value 0)
-  valid-demand = demand (mdp M) (fair M (A .model .model)) (graph G) units (Contains M G) (labelled M (A .model .model) G (A .graph)) (G .value)
-      (valued M (A .model .model) G (A .graph)) (initialState M) (concreteState M G) (A .folder .some) (root-contains M (A .model .model) G (A .graph) (A .folder .some))
-      (own M (A .model .model) G (A .graph))
+  valid-demand = demand (mdp M) (fair M (A .model .model)) (graph G) units (Contains M G) (labelled M (A .model .model) G (A .rows .content) (A .rules)) (G .value)
+      (valued M (A .model .model) G (A .rows .content) (A .rules)) (initialState M) (concreteState M G) (A .rows .folder .some) (root-contains M (A .model .model) G (A .rows .content) (A .rules) (A .rows .folder .some))
+      (own M (A .model .model) G (A .rows .content) (A .rules))
 
   -- No node waits, by its kind's number.
   none-waits : ((n : ℕ) → n < G .nodes → G .kind n ≢ 0) → (n : ℕ) → n < G .nodes → graph G .kind n ≢ Kind.waiting
-  none-waits h n l e = h n l (kind-is (G .kind n) (A .graph .nodes n l .kind) Kind.waiting e)
+  none-waits h n l e = h n l (kind-is (G .kind n) (A .rows .content .nodes n l .kind) Kind.waiting e)
 
 -- ---- the graph check's answer
 answer-is : (o : Outcome) (t s : Summary) → answerOf o t ≡ Accepted s → (o ≡ O.Accepted) × (t ≡ s)

@@ -12,7 +12,7 @@ use Rattle.model.specs.Model.{Model, modelOf}
 use Rattle.model.specs.Valid.{Valid}
 use Rattle.graph.specs.Limits.{mostBytes}
 use Rattle.graph.specs.Simulation.{edgeSize, edgeAfter, edgesStart, edgeWhole, nodeField, edgeAt, nodeCount}
-use Rattle.graph.specs.Rows.{RowsRight}
+use Rattle.graph.specs.Valid.{RowsRight}
 use Rattle.graph.specs.Walks.{startsAt, EdgeThere}
 use Rattle.graph.proofs.Limits.{few-branches, body-short}
 
@@ -42,13 +42,13 @@ module _ (M : Model) (g : List ℕ) where
 module _ {M : Model} {g : List ℕ} (rows : RowsRight M g) where
   ends : (n e : ℕ) → n < nodeCount M g → e < nodeField M g n 4 → edgeAt M g n e + edgeSize M (body g 1) (edgeAt M g n e) ≤ length (body g 1)
   unfolding edgeWhole
-  ends n e l k = leb-true _ _ (rows .edges n l e k .whole)
+  ends n e l k = leb-true _ _ (rows .content .edges n l e k .whole)
 
   -- The edge at the cursor.
   pub edge-there : (n e : ℕ) {es : List ℕ} {k nodes : ℕ} → n < nodeCount M g → e < nodeField M g n 4 → es ≡ body g 1 → k ≡ edgeAt M g n e → nodes ≡ nodeCount M g
       → EdgeThere M nodes es k
   edge-there n e l h q p c =
-      rw (q, p, c) (record { ends = ends n e l h; command = rows .edges n l e h .command; successors = rows .edges n l e h .successors })
+      rw (q, p, c) (record { ends = ends n e l h; command = rows .content .edges n l e h .command; successors = rows .content .edges n l e h .successors })
 
   -- No cursor passes the body's end, which is near.
   from-start : (n e : ℕ) → n < nodeCount M g → e ≤ nodeField M g n 4 → startsAt M g n ≤ length (body g 1) → edgeAt M g n e ≤ length (body g 1)

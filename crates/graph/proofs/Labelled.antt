@@ -27,7 +27,7 @@ use Rattle.graph.specs.Limits.{units}
 use Rattle.graph.specs.Simulation.{Simulation, graph, kindOf}
 use Rattle.graph.specs.Labels.{tracks, look, concreteState, numberOf, truthOf, Contains}
 use Rattle.graph.specs.Rules.{enabledIn}
-use Rattle.graph.specs.Valid.{GraphRight}
+use Rattle.graph.specs.Valid.{ContentRight, RulesRight}
 use Rattle.graph.proofs.Decided.{true-decided}
 
 -- ---- kinds
@@ -82,13 +82,13 @@ true-of-known : (b : Bool) → isTrue (knownTruth b) ≡ b
 true-of-known true = refl
 true-of-known false = refl
 
-module _ (M : Model) (R : ModelRight M) (G : Simulation) (A : GraphRight M G) where
+module _ (M : Model) (R : ModelRight M) (G : Simulation) (K : ContentRight M G) (A : RulesRight M G) where
   tracked-there : (n : ℕ) → n < G .nodes → (i : ℕ) → tracks G n i ≡ true → i < M .variables
   tracked-there n l i t = go (decLt i (M .variables))
     where
       go : Dec (i < M .variables) → i < M .variables
       go (yes h) = h
-      go (no g) = absurd (false≢true (sym (no-bit (G .tracked n) (M .variables) i (A .nodes n l .bits) (omega arith)) ∙ t))
+      go (no g) = absurd (false≢true (sym (no-bit (G .tracked n) (M .variables) i (K .nodes n l .bits) (omega arith)) ∙ t))
 
   -- A label says of each variable nothing, or its value in every state that it contains.
   look-says : (n : ℕ) → n < G .nodes → (s : State) → Contains M G n s → (i : ℕ) → Says (look M G n i) (valueOf s i)
@@ -113,7 +113,7 @@ module _ (M : Model) (R : ModelRight M) (G : Simulation) (A : GraphRight M G) wh
     says-truth = truth-sound (M .entries) (look M G n) s (look-says n l s c)
 
   kind-of : (n : ℕ) → n < G .nodes → (κ : Kind) → kindOf (G .kind n) ≡ κ → G .kind n ≡ numberOfKind κ
-  kind-of n l = kind-is (G .kind n) (A .nodes n l .kind)
+  kind-of n l = kind-is (G .kind n) (K .nodes n l .kind)
 
   -- ---- an expanded node
   module _ (n : ℕ) (l : n < G .nodes) (x : G .kind n ≡ 1) where
@@ -146,7 +146,7 @@ module _ (M : Model) (R : ModelRight M) (G : Simulation) (A : GraphRight M G) wh
         → Contains M G (G .successor n e b) (next M (G .command n e) b s)
     unfolding next
     edge-within e h b k s c = record {
-      state = next-in-range M R (G .command n e) b (A .edges n l e h .command) k s (c .state);
+      state = next-in-range M R (G .command n e) b (K .edges n l e h .command) k s (c .state);
       agrees = λ v p t.
           getD-tab (pos 0) (M .variables) (λ w. numberIn (M .entries) s (M .assigned (firstRecord M (G .command n e) + b) w)) v p
           ∙ known-is (G .label (G .successor n e b) v) (says-number n l s c (M .assigned (firstRecord M (G .command n e) + b) v)) (A .b2 n l x e h b k .label v p t);
@@ -171,10 +171,10 @@ module _ (M : Model) (R : ModelRight M) (G : Simulation) (A : GraphRight M G) wh
         let k : G .kind n ≡ 1 = kind-of n l Kind.expanded κ in
         record {
           no-target = λ s c. false-is (says-truth n l s c (M .target)) (A .a2 n l .no-target k);
-          known = λ e h. A .edges n l e h .command;
+          known = λ e h. K .edges n l e h .command;
           on = edge-on n l k;
           every = edge-every n l k;
-          leads = λ e h. A .edges n l e h .successors;
+          leads = λ e h. K .edges n l e h .successors;
           within = edge-within n l k;
         };
   }
@@ -192,8 +192,8 @@ module _ (M : Model) (R : ModelRight M) (G : Simulation) (A : GraphRight M G) wh
   own n l = record {
     state = record {
       long = length-tab (M .variables) (G .concrete n);
-      low = λ v p. rw (getD-tab (pos 0) (M .variables) (G .concrete n) v p) (A .nodes n l .low v p);
-      high = λ v p. rw (getD-tab (pos 0) (M .variables) (G .concrete n) v p) (A .nodes n l .high v p);
+      low = λ v p. rw (getD-tab (pos 0) (M .variables) (G .concrete n) v p) (K .nodes n l .low v p);
+      high = λ v p. rw (getD-tab (pos 0) (M .variables) (G .concrete n) v p) (K .nodes n l .high v p);
     };
     agrees = λ v p t. getD-tab (pos 0) (M .variables) (G .concrete n) v p ∙ sym (A .a1 n l v p t);
   }
@@ -205,4 +205,4 @@ module _ (M : Model) (R : ModelRight M) (G : Simulation) (A : GraphRight M G) wh
       ap isTrue (known-truth (says-truth n l (concreteState M G n) (own n l) (M .guard d)) (A .a2 n l .guards x d h)) ∙ true-of-known (truthIn (M .entries) (concreteState M G n) (M .guard d))
 
   pub root-contains : 0 < G .nodes → Contains M G 0 (initialState M)
-  root-contains l = subst (λ (s : State). Contains M G 0 s) (A .initial) (own 0 l)
+  root-contains l = subst (λ (s : State). Contains M G 0 s) (K .initial) (own 0 l)

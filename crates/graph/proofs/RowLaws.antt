@@ -6,17 +6,16 @@ use mathlib.Core.Path.{_≡_, refl, sym, _∙_}
 use mathlib.Core.Logic.{_↔_}
 use mathlib.Core.Bool.{Bool, true, false}
 use mathlib.Core.List.{List, _∷_}
-use lib.ListN.{drop}
-use Rattle.folder.specs.Table.{Row, single, refused, outcome, AllHold}
+use Rattle.folder.specs.Table.{Row, single, refused, outcome}
 use Rattle.folder.specs.declared.Refusal.{Refusal}
 use Rattle.folder.specs.declared.Outcome.the-variants.{Accepted, Refused}
 use Rattle.folder.proofs.ScanLaws.{all-found, found-at}
-use Rattle.folder.proofs.TableLaws.{Rest, refuses, row-holds, row-asks, single-asks, _row-and_, no-rows, put-so, tables-ask, accepted-asks, accepted-then, refused-then}
+use Rattle.folder.proofs.TableLaws.{Rest, refuses, row-holds, accepted-asks, accepted-then, refused-then}
 use Rattle.model.specs.Model.{Model}
-use Rattle.graph.specs.Simulation.{nodeCount, simulationOf}
-use Rattle.graph.specs.Table.{folderRows, graphRows}
-use Rattle.graph.specs.Rows.{firstRows, RowsRight}
-use Rattle.graph.proofs.Decided.{folder-asks, node-decided, edges-decided, root-decided}
+use Rattle.graph.specs.Simulation.{simulationOf}
+use Rattle.graph.specs.Table.{firstRows, ruleRows, graphRows}
+use Rattle.graph.specs.Valid.{RowsRight}
+use Rattle.graph.proofs.Decided.{first-ask}
 
 -- A row of one test, whose answer is t.
 module _ {whole rs : List Row} {number place : ℕ} {ok : Bool} (h : Rest whole (single number place ok ∷ rs)) {t : Bool} (e : t ≡ ok) where
@@ -27,29 +26,13 @@ module _ {whole rs : List Row} {number place : ℕ} {ok : Bool} (h : Rest whole 
   test-holds f = row-holds h {n = 1} {p = 1} refl (sym (all-found (λ _. ok) 1 (λ k l. sym e ∙ f))) (omega arith)
 
 module _ (M : Model) (g : List ℕ) where
-  rows-ask : AllHold (firstRows M g) ↔ RowsRight M g
-  rows-ask = put-so
-      (tables-ask (folderRows M g) (folder-asks M g)
-      (row-asks _ (node-decided M (simulationOf M g))
-      row-and row-asks _ (edges-decided M (simulationOf M g))
-      row-and single-asks 17 0 (root-decided M (simulationOf M g))
-      row-and no-rows))
-      (λ h. record {
-        folder = h .0;
-        nodes = h .1 .0;
-        edges = λ n l. h .1 .1 .0 n (omega arith) .0 l;
-        spent = h .1 .1 .0 (nodeCount M g) (omega arith) .1 (λ l. omega arith);
-        initial = h .1 .1 .1 .0;
-      })
-      (λ r. (r .folder, (r .nodes, ((λ n l. (r .edges n, λ h. r .spent)), (r .initial, tt)))))
-
   -- They hold if and only if the rules do.
   pub rows-right : (outcome (firstRows M g) ≡ Accepted) ↔ RowsRight M g
-  rows-right = accepted-asks rows-ask
+  rows-right = accepted-asks (first-ask M g)
 
   -- Where they hold the table's outcome is that of the rows after them, and where one is broken it is theirs.
-  pub rows-then : outcome (firstRows M g) ≡ Accepted → outcome (graphRows M g) ≡ outcome (drop 6 (graphRows M g))
-  rows-then = accepted-then (firstRows M g) (drop 6 (graphRows M g))
+  pub rows-then : outcome (firstRows M g) ≡ Accepted → outcome (graphRows M g) ≡ outcome (ruleRows M (simulationOf M g))
+  rows-then = accepted-then (firstRows M g) (ruleRows M (simulationOf M g))
 
   pub rows-refused : (f : Refusal) → outcome (firstRows M g) ≡ Refused f → outcome (graphRows M g) ≡ Refused f
-  rows-refused = refused-then (firstRows M g) (drop 6 (graphRows M g))
+  rows-refused = refused-then (firstRows M g) (ruleRows M (simulationOf M g))

@@ -6,6 +6,5 @@ pub mod Table
 pub mod Figures
 pub mod Pedal
 pub mod Valid
-pub mod Rows
 pub mod Walks
 pub mod Demand

@@ -42,6 +42,10 @@ isCovered G n = eqb (G .kind n) 2
 abbrev pub isTarget : Simulation → ℕ → Bool
 isTarget G n = eqb (G .kind n) 3
 
+-- Row 16, of an edge: its command is there, it is whole, and each successor is one of the nodes.
+abbrev pub edgeStands : Model → ℕ → ℕ → Bool → (ℕ → ℕ) → Bool
+edgeStands M nodes command whole successor = (ltb command (M .commands) && whole) && all (λ b. ltb (successor b) nodes) (M .branches command)
+
 module _ (M : Model) (G : Simulation) where
   -- Row 15: node n. Its kind, value, cover and edge count; no bit past the variables; and each variable's values.
   unfoldable pub headFits : ℕ → Bool
@@ -57,9 +61,7 @@ module _ (M : Model) (G : Simulation) where
 
   -- Row 16: edge e of node n; the edges of node n; and, at the node count, that no bytes are over.
   unfoldable pub edgeFits : ℕ → ℕ → Bool
-  edgeFits n e =
-      (ltb (G .command n e) (M .commands) && G .whole n e)
-      && all (λ b. ltb (G .successor n e b) (G .nodes)) (M .branches (G .command n e))
+  edgeFits n e = edgeStands M (G .nodes) (G .command n e) (G .whole n e) (G .successor n e)
 
   unfoldable pub edgesFit : ℕ → Bool
   edgesFit n = pick (ltb n (G .nodes)) (all (edgeFits n) (G .edges n)) (G .spent)

@@ -21,6 +21,14 @@ use Rattle.graph.specs.declared.GraphAnswer.the-variants.{Accepted, Refu
 abbrev pub folderRows : Model → List ℕ → List Row
 folderRows M g = single 12 0 (bytesFit g) ∷ row 13 bodies (entryOk g bodies) ∷ single 14 0 (nodesFit M g) ∷ []
 
+-- The rows on what they hold, before any rule of a node.
+abbrev pub contentRows : Model → Simulation → List Row
+contentRows M G = row 15 (G .nodes) (nodeFits M G) ∷ row 16 (G .nodes + 1) (edgesFit M G) ∷ single 17 0 (rootFits M G) ∷ []
+
+-- Rows 12 to 17: the bytes are a graph that starts at the initial state.
+abbrev pub firstRows : Model → List ℕ → List Row
+firstRows M g = folderRows M g ++ contentRows M (simulationOf M g)
+
 -- The rules of node n.
 abbrev pub nodeRules : Model → Simulation → ℕ → List Rule
 nodeRules M G n =
@@ -34,17 +42,12 @@ nodeRules M G n =
     ∷ rule 25 (valueFits M G (G .value) n)
     ∷ []
 
--- And the rows on what they hold.
-abbrev pub contentRows : Model → Simulation → List Row
-contentRows M G =
-    row 15 (G .nodes) (nodeFits M G)
-    ∷ row 16 (G .nodes + 1) (edgesFit M G)
-    ∷ single 17 0 (rootFits M G)
-    ∷ group (G .nodes) (nodeRules M G)
-    ∷ []
+-- All nodes' rules, one node after the other.
+abbrev pub ruleRows : Model → Simulation → List Row
+ruleRows M G = group (G .nodes) (nodeRules M G) ∷ []
 
 abbrev pub graphRows : Model → List ℕ → List Row
-graphRows M g = folderRows M g ++ contentRows M (simulationOf M g)
+graphRows M g = firstRows M g ++ ruleRows M (simulationOf M g)
 
 unfoldable pub graphOutcome : List ℕ → List ℕ → Outcome
 graphOutcome m g = outcome (modelRows m ++ graphRows (modelOf m) g)

@@ -53,6 +53,13 @@ module _ (M : Model) (G : Simulation) where
   abbrev pub StartsInitial : Type 0
   StartsInitial = concreteState M G 0 ≡ initialState M
 
+  -- Rows 15 to 17.
+  pub record ContentRight : Type 0 where
+    pub nodes : (n : ℕ) → n < G .nodes → NodeRight n
+    pub edges : (n : ℕ) → n < G .nodes → (e : ℕ) → e < G .edges n → EdgeRight n e
+    pub spent : G .spent ≡ true
+    pub initial : StartsInitial
+
   -- A1: the label does not differ from the concrete label on a tracked variable.
   abbrev pub RightA1 : ℕ → Type 0
   RightA1 n = (v : ℕ) → v < M .variables → tracks G n v ≡ true → G .label n v ≡ G .concrete n v
@@ -98,12 +105,8 @@ module _ (M : Model) (G : Simulation) where
     pub expanded : G .kind n ≡ 1 → (e : ℕ) → e < G .edges n → along (mdp M) (graph G) value n e ≤ M .total * value n
     pub covered : G .kind n ≡ 2 → value (G .cover n) ≤ value n
 
-  -- Rows 15 to 25.
-  pub record GraphRight : Type 0 where
-    pub nodes : (n : ℕ) → n < G .nodes → NodeRight n
-    pub edges : (n : ℕ) → n < G .nodes → (e : ℕ) → e < G .edges n → EdgeRight n e
-    pub spent : G .spent ≡ true
-    pub initial : StartsInitial
+  -- Rows 18 to 25.
+  pub record RulesRight : Type 0 where
     pub a1 : (n : ℕ) → n < G .nodes → RightA1 n
     pub a2 : (n : ℕ) → n < G .nodes → RightA2 n
     pub b1 : (n : ℕ) → n < G .nodes → RightB1 n
@@ -113,11 +116,16 @@ module _ (M : Model) (G : Simulation) where
     pub c2 : (n : ℕ) → n < G .nodes → RightC2 n
     pub values : (n : ℕ) → n < G .nodes → RightValue (G .value) n
 
+-- Rows 12 to 17: the bytes are a graph that starts at the initial state.
+pub record RowsRight (M : Model) (g : List ℕ) : Type 0 where
+  pub folder : FolderRight M g
+  pub content : ContentRight M (simulationOf M g)
+
 -- All that the graph check asks: the folder and model rules, the initial state, A1 to C3 and the value rule.
 pub record Valid (m g : List ℕ) : Type 0 where
   pub model : Models.Valid m
-  pub folder : FolderRight (modelOf m) g
-  pub graph : GraphRight (modelOf m) (simulationOf (modelOf m) g)
+  pub rows : RowsRight (modelOf m) g
+  pub rules : RulesRight (modelOf m) (simulationOf (modelOf m) g)
 
 -- Rows 26 to 28: no node waits, h is at most 10,000, and no row is shorter than the nodes.
 pub record FigureRight (G : Simulation) (h : ℕ) (first second : List ℕ) : Type 0 where

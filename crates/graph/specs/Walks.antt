@@ -2,15 +2,16 @@
 -- Assumes nothing.
 use Prim.Native.Nat.{ℕ, _+_, _≤_, _<_}
 use mathlib.Core.Path.{_≡_}
-use mathlib.Core.Bool.{Bool, _&&_}
+use mathlib.Core.Bool.{Bool}
 use mathlib.Core.List.{List}
 use lib.ListN.{length}
 use lib.Dec.{ltb}
-use Rattle.folder.specs.Scan.{firstBad, all}
+use Rattle.folder.specs.Scan.{firstBad}
 use Rattle.folder.specs.Contents.{body}
 use Rattle.model.specs.Model.{Model}
 use Rattle.model.specs.Layout.{variableCount}
 use Rattle.graph.specs.Simulation.{commandIn, successorIn, edgeSize, edgeAfter, edgesStart, edgeWhole, nodeField}
+use Rattle.graph.specs.Rules.{edgeStands}
 
 -- vs is the variable body of the model folder m, which has `variables` of them, and ns the node body of the graph folder g.
 pub record NodeBodies (m g : List ℕ) (variables : ℕ) (vs ns : List ℕ) : Type 0 where
@@ -29,7 +30,7 @@ successorFits nodes es k b = ltb (successorIn es k b) nodes
 module _ (M : Model) (nodes : ℕ) (es : List ℕ) where
   -- Row 16 at the edge at k.
   unfoldable pub edgeFitsAt : ℕ → Bool
-  edgeFitsAt k = (ltb (commandIn es k) (M .commands) && edgeWhole M es k) && all (successorFits nodes es k) (M .branches (commandIn es k))
+  edgeFitsAt k = edgeStands M nodes (commandIn es k) (edgeWhole M es k) (successorIn es k)
 
   -- The edge at k fits, as `ok` says, and ends at `next`.
   pub record EdgeAt (k : ℕ) (ok : Bool) (next : ℕ) : Type 0 where

@@ -20,8 +20,7 @@ ghost use Rattle.model.specs.Valid.{Valid};
 ghost use Rattle.graph.specs.Limits.{mostBytes, mostNodes};
 ghost use Rattle.graph.specs.Simulation.{nodeSize, nodeCount, edgeSize, simulationOf};
 ghost use Rattle.graph.specs.Rules.{bytesFit, nodesFit, valuesFit, nodeFits, edgesFit, rootFits};
-ghost use Rattle.graph.specs.Table.{kindCount};
-ghost use Rattle.graph.specs.Rows.{firstRows};
+ghost use Rattle.graph.specs.Table.{firstRows, kindCount};
 ghost use Rattle.graph.specs.Walks.{NodeBodies, successorFits, EdgeAt, Walked};
 
 // Certainty, in units.

@@ -11,7 +11,8 @@ use Rattle.expressions.specs.Entries.{entriesOf, isNumber}
 use Rattle.expressions.specs.Ranges.{span, boundIn, inside}
 use Rattle.expressions.specs.declared.Range.{Range}
 use Rattle.expressions.proofs.Decided.{number-decided}
-use Rattle.model.specs.Bodies.{Held, staysIn}
+use Rattle.model.specs.Bodies.{Held}
+use Rattle.model.specs.Rules.{staysIn}
 
 -- A number has an entry.
 pub number-there : (x : List ℕ) (e : ℕ) {t : Bool} → t ≡ isNumber (entriesOf x) e → t ≡ true → e < countOf 8 x

@@ -11,8 +11,7 @@ use Rattle.expressions.specs.Entries.{entriesOf}
 use Rattle.expressions.specs.Ranges.{boundIn}
 use Rattle.model.specs.Layout.{variableCount, branchSize, recordSize, recordCount}
 use Rattle.model.specs.Model.{modelOf, bound, firstRecord, modelIn}
-use Rattle.model.specs.Bodies.{staysIn}
-use Rattle.model.specs.Rules.{variableFits, termsFit, commandFits, recordsAddUp, assignedFits, branchFits, weightsTotal}
+use Rattle.model.specs.Rules.{variableFits, termsFit, commandFits, recordsAddUp, staysIn, assignedFits, branchFits, weightsTotal}
 
 module _ (m : List ℕ) {t : Bool} where
   pub variable-in : {y : List ℕ} (v : ℕ) → y ≡ body m 1 → t ≡ variableFits (modelIn [] y [] [] []) v → t ≡ variableFits (modelOf m) v

@@ -2,13 +2,11 @@
 -- Assumes nothing.
 use Prim.Native.Nat.{ℕ, _+_}
 use mathlib.Core.List.{List}
-use lib.Dec.{ltb}
-use lib.IntN.{ℤ, pos}
+use lib.IntN.{ℤ}
 use Rattle.mdp.specs.Sums.{sum}
-use Rattle.folder.specs.Pick.{pick}
 use Rattle.folder.specs.Contents.{body, countOf, field, signedField}
 use Rattle.expressions.specs.Entries.{Entries, entriesOf}
-use Rattle.expressions.specs.Ranges.{span}
+use Rattle.expressions.specs.Ranges.{boundOf}
 use Rattle.expressions.specs.declared.Range.{Range}
 use Rattle.model.specs.Layout.{branchSize}
 
@@ -54,9 +52,9 @@ abbrev pub modelOf : List ℕ → Model
 modelOf m = modelIn (body m 0) (body m 1) (body m 2) (body m 3) (body m 4)
 
 module _ (M : Model) where
-  -- The range of variable v; past the last, 0 to 0.
+  -- The range of variable v.
   unfoldable pub bound : ℕ → Range
-  bound v = pick (ltb v (M .variables)) (span (M .low v) (M .high v)) (span (pos 0) (pos 0))
+  bound v = boundOf (M .variables) (M .low) (M .high) v
 
   -- The first branch record of command c: its branches stand there, after those of the commands before.
   abbrev pub firstRecord : ℕ → ℕ

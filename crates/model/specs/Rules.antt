@@ -11,8 +11,9 @@ use Rattle.mdp.specs.Sums.{sum}
 use Rattle.folder.specs.Pick.{implies}
 use Rattle.folder.specs.Scan.{all}
 use Rattle.folder.specs.Contents.{body}
-use Rattle.expressions.specs.Entries.{isNumber, isTruth}
+use Rattle.expressions.specs.Entries.{Entries, isNumber, isTruth}
 use Rattle.expressions.specs.Ranges.{rangeOf, inside}
+use Rattle.expressions.specs.declared.Range.{Range}
 use Rattle.model.specs.Limits.{leastBytes, mostBytes, leastBound, mostBound, mostBranches}
 use Rattle.model.specs.Layout.{recordSize, recordCount, mostOf}
 use Rattle.model.specs.Model.{Model, bound, firstRecord}
@@ -28,6 +29,10 @@ recordsFit m e = (eqb (length (body m e) % recordSize m e) 0 && leb 1 (recordCou
 -- x lies in low to high.
 abbrev pub between : ℤ → ℤ → ℤ → Bool
 between low high x = leZ low x && leZ x high
+
+-- Entry e may be assigned to variable v: it is a number, and its range stays in the variable's.
+abbrev pub staysIn : Entries → (ℕ → Range) → ℕ → ℕ → Bool
+staysIn x bound e v = isNumber x e && inside (rangeOf x bound e) (bound v)
 
 module _ (M : Model) where
   -- Row 4: variable v.
@@ -49,7 +54,7 @@ module _ (M : Model) where
 
   -- Row 10: branch record r; and what it assigns to variable v.
   unfoldable pub assignedFits : ℕ → ℕ → Bool
-  assignedFits r v = isNumber (M .entries) (M .assigned r v) && inside (rangeOf (M .entries) (bound M) (M .assigned r v)) (bound M v)
+  assignedFits r v = staysIn (M .entries) (bound M) (M .assigned r v) v
 
   unfoldable pub branchFits : ℕ → Bool
   branchFits r = not (eqb (M .weight r) 0) && all (assignedFits r) (M .variables)

@@ -17,7 +17,7 @@ use Rattle.model.specs.Model.{modelOf}
 use Rattle.model.specs.Valid.{Valid}
 use Rattle.graph.specs.Simulation.{nodeSize, nodeField, nodeCount, simulationOf}
 use Rattle.graph.specs.Rules.{A2, B1, B2}
-use Rattle.graph.specs.Rows.{RowsRight}
+use Rattle.graph.specs.Valid.{RowsRight}
 use Rattle.graph.specs.Table.{nodeRules}
 use Rattle.graph.specs.Walks.{startsAt}
 use Rattle.graph.proofs.Limits.{few-variables}
@@ -56,7 +56,7 @@ module _ {m g values weights firsts : List ℕ} (r : Ready m g values weights fi
     model = r .model;
     folder = r .rows .folder;
     here = node .there;
-    edges = r .rows .edges n (node .there);
+    edges = r .rows .content .edges n (node .there);
     tables = r .tables;
     long = r .long;
     starts = e;

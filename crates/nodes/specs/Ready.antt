@@ -9,7 +9,7 @@ use Rattle.model.specs.Model.{Model, modelOf}
 use Rattle.model.specs.Valid.{Valid}
 use Rattle.graph.specs.Simulation.{Simulation, nodeCount, simulationOf}
 use Rattle.graph.specs.Rules.{A2, B1, B2, C3, C1, C2, valueFits}
-use Rattle.graph.specs.Rows.{RowsRight}
+use Rattle.graph.specs.Valid.{RowsRight}
 use Rattle.rounds.specs.Rounds.{Tables}
 
 pub record Ready (m g values weights firsts : List ℕ) : Type 0 where

@@ -8,15 +8,14 @@ use graph::TARGET;
 ghost use mathlib.Core.Path.{_≡_};
 ghost use mathlib.Core.Bool.{true};
 ghost use Prim.Native.Nat.{_+_, _≤_};
-ghost use lib.ListN.{drop};
 ghost use Rattle.folder.specs.Table.{firstBroken, outcome};
 ghost use Rattle.model.specs.Model.{modelOf};
 ghost use Rattle.model.specs.Valid.{Valid};
 ghost use Rattle.graph.specs.Limits.{mostNodes};
 ghost use Rattle.graph.specs.Simulation.{nodeCount, simulationOf};
 ghost use Rattle.graph.specs.Rules.{A1};
-ghost use Rattle.graph.specs.Table.{nodeRules, graphRows, summary};
-ghost use Rattle.graph.specs.Rows.{RowsRight};
+ghost use Rattle.graph.specs.Table.{nodeRules, ruleRows, graphRows, summary};
+ghost use Rattle.graph.specs.Valid.{RowsRight};
 ghost use Rattle.graph.specs.Walks.{startsAt};
 ghost use Rattle.expand.specs.Node.{NodeOf, FirstsOf};
 ghost use Rattle.nodes.specs.Ready.{Ready, readingRules, coverRules};
@@ -145,7 +144,7 @@ fn first_broken(
 // The rules of all nodes, with the tables they look in.
 fn all_nodes(m: &[u8], g: &[u8], values: &[u32], weights: &[usize], firsts: &[usize]) -> Outcome
     requires { ⌜ Ready (now m) (now g) (now values) (now weights) (now firsts) ⌝ }
-    ensures { λ r. ⌜ r ≡ outcome (drop 6 (graphRows (modelOf (now (m .entry))) (now (g .entry)))) ⌝ }
+    ensures { λ r. ⌜ r ≡ outcome (ruleRows (modelOf (now (m .entry))) (simulationOf (modelOf (now (m .entry))) (now (g .entry)))) ⌝ }
 {
     let nodes = graph::node_count(m, g);
     let mut n = 0;
@@ -165,7 +164,7 @@ fn all_nodes(m: &[u8], g: &[u8], values: &[u32], weights: &[usize], firsts: &[us
 fn check_nodes(m: &[u8], g: &[u8]) -> Outcome
     requires { ⌜ Valid (now m) ⌝ }
     requires { ⌜ RowsRight (modelOf (now m)) (now g) ⌝ }
-    ensures { λ r. ⌜ r ≡ outcome (drop 6 (graphRows (modelOf (now (m .entry))) (now (g .entry)))) ⌝ }
+    ensures { λ r. ⌜ r ≡ outcome (ruleRows (modelOf (now (m .entry))) (simulationOf (modelOf (now (m .entry))) (now (g .entry)))) ⌝ }
 {
     let mut values = [0u32; MOST_NODES];
     let mut weights = [0usize; 1024];

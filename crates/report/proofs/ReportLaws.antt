@@ -38,10 +38,10 @@ module _ (m g : List ℕ) where
     pub counts-few : {s : Summary} → s ≡ summary G
         → (s .expanded ≤ 65536) × (s .covered ≤ 65536) × (s .target ≤ 65536) × (s .waiting ≤ 65536)
     counts-few {s} e = (
-      omega (arith, ap (λ (x : Summary). x .expanded) e, kind-few G 1, A .folder .few),
-      omega (arith, ap (λ (x : Summary). x .covered) e, kind-few G 2, A .folder .few),
-      omega (arith, ap (λ (x : Summary). x .target) e, kind-few G 3, A .folder .few),
-      omega (arith, ap (λ (x : Summary). x .waiting) e, kind-few G 0, A .folder .few),
+      omega (arith, ap (λ (x : Summary). x .expanded) e, kind-few G 1, A .rows .folder .few),
+      omega (arith, ap (λ (x : Summary). x .covered) e, kind-few G 2, A .rows .folder .few),
+      omega (arith, ap (λ (x : Summary). x .target) e, kind-few G 3, A .rows .folder .few),
+      omega (arith, ap (λ (x : Summary). x .waiting) e, kind-few G 0, A .rows .folder .few),
     )
 
     -- With no node waiting, rows of 4,096 elements take the figures, and the root's is the first element.
@@ -55,21 +55,21 @@ module _ (m g : List ℕ) where
             record {
               none-waits = none-of-kind G 0 z;
               few-steps = l;
-              first-long = omega (arith, A .folder .few);
-              second-long = omega (arith, A .folder .few);
+              first-long = omega (arith, A .rows .folder .few);
+              second-long = omega (arith, A .rows .folder .few);
             },
           )
 
       pub root-first : {a : List ℕ} {r : ℕ} → a ≡ firstOf M G h (outcome (figureRows G h first second)) first
           → r ≡ getD a 0 0 → h % 2 ≡ 0 → r ≡ rootFigure m g h
-      root-first e w t = w ∙ rw (e, figure-accepted, eq-eqb (h % 2) 0 t) (begins A h _ 0 (A .folder .some))
+      root-first e w t = w ∙ rw (e, figure-accepted, eq-eqb (h % 2) 0 t) (begins A h _ 0 (A .rows .folder .some))
 
       pub root-second : {b : List ℕ} {r : ℕ} → b ≡ secondOf M G h (outcome (figureRows G h first second)) second
           → r ≡ getD b 0 0 → (h % 2 ≡ 0 → ⊥) → r ≡ rootFigure m g h
       root-second e w t =
           w
           ∙ rw (e, figure-accepted, ne-eqb h 0 (λ k. t (ap (λ (j : ℕ). j % 2) k)), ne-eqb (h % 2) 0 t)
-          (begins A h _ 0 (A .folder .some))
+          (begins A h _ 0 (A .rows .folder .some))
 
   pub none-waiting : {s : Summary} → s ≡ summary G → s .waiting ≡ 0 → summary G .waiting ≡ 0
   none-waiting e z = sym (ap (λ (x : Summary). x .waiting) e) ∙ z

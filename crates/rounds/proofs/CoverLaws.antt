@@ -34,7 +34,7 @@ module _ {m g : List ℕ} (A : Valid m g) where
   source-in n l = go (ℕ-discrete (G .kind n) 2)
     where
       go : Dec (G .kind n ≡ 2) → source G n < G .nodes
-      go (yes e) = rw (eq-eqb (G .kind n) 2 e) (A .graph .c3 n l e .0)
+      go (yes e) = rw (eq-eqb (G .kind n) 2 e) (A .rules .c3 n l e .0)
       go (no h) = rw (ne-eqb (G .kind n) 2 h) l
 
   source-open : (n : ℕ) → n < G .nodes → source G (source G n) ≡ source G n
@@ -42,7 +42,7 @@ module _ {m g : List ℕ} (A : Valid m g) where
   source-open n l = go (ℕ-discrete (G .kind n) 2)
     where
       go : Dec (G .kind n ≡ 2) → source G (source G n) ≡ source G n
-      go (yes e) = rw (eq-eqb (G .kind n) 2 e, ne-eqb (G .kind (G .cover n)) 2 (A .graph .c3 n l e .1)) refl
+      go (yes e) = rw (eq-eqb (G .kind n) 2 e, ne-eqb (G .kind (G .cover n)) 2 (A .rules .c3 n l e .1)) refl
       go (no h) = rw (ne-eqb (G .kind n) 2 h, ne-eqb (G .kind n) 2 h) refl
 
   pub source-is : {size : ℕ} {nb : List ℕ} → size ≡ nodeSize (variableCount m) → nb ≡ body g 0 → (n : ℕ) {kind cover s : ℕ} → kind ≡ field size nb n 0

@@ -51,7 +51,7 @@ module _ {m g : List ℕ} (A : Valid m g) where
   module _ (v w : ℕ → ℕ) (e : (n : ℕ) → n < G .nodes → v n ≡ w n) where
     along-same : (n : ℕ) → n < G .nodes → (j : ℕ) → j < G .edges n → along (mdp M) (graph G) v n j ≡ along (mdp M) (graph G) w n j
     along-same n l j k =
-        sum-eq _ _ _ (λ b h. ap (λ (x : ℕ). mdp M .weight (G .command n j) b * x) (e (G .successor n j b) (A .graph .edges n l j k .successors b h)))
+        sum-eq _ _ _ (λ b h. ap (λ (x : ℕ). mdp M .weight (G .command n j) b * x) (e (G .successor n j b) (A .rows .content .edges n l j k .successors b h)))
 
     again-same : (n : ℕ) → n < G .nodes → (κ : Kind)
         → again (mdp M) (graph G) units units (up (mdp M) (graph G) units) v κ n ≡ again (mdp M) (graph G) units units (up (mdp M) (graph G) units) w κ n
@@ -83,7 +83,7 @@ module _ {m g : List ℕ} (A : Valid m g) where
   unfolding nextRound
   next-small row R n l =
       rw (shared-source M G (ownNext M G row) n ∙ own-next M G row (source G n))
-      (figure-by-small (G .kind (source G n)) _ (M .total) (some-total A) (best-small m g (A .model .model) (source G n) (A .graph .edges (source G n) (source-in A n l)) row R))
+      (figure-by-small (G .kind (source G n)) _ (M .total) (some-total A) (best-small m g (A .model .model) (source G n) (A .rows .content .edges (source G n) (source-in A n l)) row R))
 
   held-by : (k : ℕ) → ((n : ℕ) → n < G .nodes → fig k n ≤ units) → Round (G .nodes) (figures M G k)
   held-by k h = record { long = omega (arith, figures-long k); small = λ n l. rw (figures-hold k n l) (h n l) }

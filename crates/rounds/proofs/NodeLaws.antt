@@ -39,7 +39,7 @@ module _ {m g : List ℕ} (A : Valid m g) where
   pub shaped : {size nodes : ℕ} {nb : List ℕ} → size ≡ nodeSize (variableCount m) → nb ≡ body g 0 → nodes ≡ countOf size nb → Shaped m g size nodes
   shaped {nodes = nodes} p q e =
       let k : nodes ≡ nodesOf m g = e ∙ rw (p, q) refl in
-      record { size-is = p; nodes-are = k; small = omega (arith, few-variables); few = omega (arith, k, A .folder .few) }
+      record { size-is = p; nodes-are = k; small = omega (arith, few-variables); few = omega (arith, k, A .rows .folder .few) }
 
   pub few-commands : M .commands ≤ mostCommands
   unfolding recordCount recordSize
@@ -63,18 +63,18 @@ module _ {m g : List ℕ} (A : Valid m g) where
   module _ {size d : ℕ} {cs nb eb : List ℕ} (P : Parts m g size d cs nb eb) {weights firsts : List ℕ} (T : Tables M weights firsts) where
     module _ {n at count : ℕ} (l : n < G .nodes) (a : at ≡ starts n) (q : count ≡ field size nb n 4) where
       pub node-ready : (nodes : ℕ) → G .nodes ≤ nodes → EdgesReady cs eb weights firsts nodes at count
-      node-ready nodes k = rw (P .commands, P .edges, a, q, P .size-is, P .nodes) (edges-ready m g (A .model .model) T n (A .graph .edges n l) nodes k)
+      node-ready nodes k = rw (P .commands, P .edges, a, q, P .size-is, P .nodes) (edges-ready m g (A .model .model) T n (A .rows .content .edges n l) nodes k)
 
       pub node-next : {k : ℕ} → k ≡ after cs eb at count → k ≡ starts (n + 1)
-      node-next p = p ∙ rw (P .commands, P .edges, a, q, P .size-is, P .nodes) (next-starts m g (A .model .model) T n (A .graph .edges n l))
+      node-next p = p ∙ rw (P .commands, P .edges, a, q, P .size-is, P .nodes) (next-starts m g (A .model .model) T n (A .rows .content .edges n l))
 
       module _ (row : List ℕ) {best : ℕ} (b : best ≡ bestOf cs eb weights firsts row at count) where
         pub node-small : Round (G .nodes) row → best ≤ d * units
         node-small S =
-            rw (b, P .total, P .commands, P .edges, a, q, P .size-is, P .nodes, best-is m g (A .model .model) T n (A .graph .edges n l) row)
-            (best-small m g (A .model .model) n (A .graph .edges n l) row S)
+            rw (b, P .total, P .commands, P .edges, a, q, P .size-is, P .nodes, best-is m g (A .model .model) T n (A .rows .content .edges n l) row)
+            (best-small m g (A .model .model) n (A .rows .content .edges n l) row S)
 
         pub node-figure : {kind f : ℕ} → kind ≡ field size nb n 0 → f ≡ figureBy kind best d → f ≡ ownNext M G row n
         node-figure k p =
-            p ∙ rw (k, b, P .total, P .commands, P .edges, a, q, P .size-is, P .nodes, best-is m g (A .model .model) T n (A .graph .edges n l) row)
+            p ∙ rw (k, b, P .total, P .commands, P .edges, a, q, P .size-is, P .nodes, best-is m g (A .model .model) T n (A .rows .content .edges n l) row)
             (sym (own-next M G row n))

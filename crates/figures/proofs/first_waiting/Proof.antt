@@ -28,7 +28,7 @@ field-requires : tie.Need-field-requires Inv-loop μ-loop
 field-requires c κs =
     let p = c .before .before .before .before .before .before .before .before .pre in
     let n = c .before .before .before .node-count .ensures in
-    (omega (arith, c .before .before .before .before .node-size .ensures .2), omega (arith, n, p .folder .few), omega arith)
+    (omega (arith, c .before .before .before .before .node-size .ensures .2), omega (arith, n, p .rows .folder .few), omega arith)
 
 loop-holds : tie.Need-loop-holds Inv-loop μ-loop
 loop-holds c = scan-start _ _

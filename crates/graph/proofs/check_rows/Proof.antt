@@ -8,7 +8,7 @@ use Rattle.folder.specs.Table.{Row}
 use Rattle.folder.proofs.TableLaws.{Rest, no-row, row-holds, refuses, rest-of}
 use Rattle.model.specs.Model.{modelOf}
 use Rattle.graph.specs.Rules.{nodesFit}
-use Rattle.graph.specs.Rows.{firstRows}
+use Rattle.graph.specs.Table.{firstRows}
 use Rattle.graph.proofs.Decided.{bytes-decided, nodes-decided}
 use Rattle.graph.proofs.RowLaws.{test-refuses, test-holds}
 use Rattle.graph.proofs.check_rows.Statement.{statement}

@@ -10,7 +10,7 @@ use Rattle.laguipy.proofs.graph_check.Tie as tie
 summary-of-requires : tie.Need-summary-of-requires
 summary-of-requires c κs =
     let valid = accepted-valid (now (c .before .before .before .before .before .args .model)) (now (c .before .before .before .before .before .args .graph)) .0 (sym (c .before .before .graph-outcome .ensures) ∙ c .enum-told .given .1) in
-    (valid .model, valid .folder .few)
+    (valid .model, valid .rows .folder .few)
 
 returns : tie.Need-returns
 returns c = sym (answer-refused (now (c .before .before .before .before .before .before .args .model)) (now (c .before .before .before .before .before .before .args .graph)) _ (sym (c .before .before .before .graph-outcome .ensures) ∙ c .before .o .given .1))
