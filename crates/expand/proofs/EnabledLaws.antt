@@ -22,11 +22,11 @@ use Rattle.folder.proofs.Decides.{and-both, both-and, unless, same, same-lists,
 use Rattle.folder.proofs.TabLaws.{length-tab, getD-tab}
 use Rattle.model.specs.Model.{Model, modelOf}
 use Rattle.graph.specs.Simulation.{edgeSize, edgeAt, nodeField, simulationOf}
-use Rattle.graph.specs.Rules.{enabledIn}
+use Rattle.graph.specs.Rules.{enabledIn, sameEdges}
 use Rattle.graph.specs.Walks.{startsAt}
 use Rattle.graph.proofs.EdgePlaces.{place-start, place-next}
 use Rattle.expand.specs.Node.{NodeOf, LabelSettled}
-use Rattle.expand.specs.Tests.{trueAt, namesAt, sameEdges}
+use Rattle.expand.specs.Tests.{trueAt, namesAt}
 use Rattle.expand.proofs.AllLaws.{same-test, passing-same}
 use Rattle.expand.proofs.Readings.{true-is}
 
@@ -118,5 +118,5 @@ module _ (M : Model) (g : List ℕ) (n : ℕ) (test : ℕ → Bool) where
 -- The test is that the guard reads true.
 module _ {m g : List ℕ} {n : ℕ} {known : List ℕ} {values : List ℤ} (node : NodeOf m g n) (settled : LabelSettled m g n known values) where
   pub same-edges : {edges commands : ℕ} → edges ≡ nodeField (modelOf m) g n 4 → commands ≡ modelOf m .commands
-      → sameList (tab edges (simulationOf (modelOf m) g .command n)) (passing commands (λ c. trueAt known values (modelOf m .guard c))) ≡ sameEdges m g n
+      → sameList (tab edges (simulationOf (modelOf m) g .command n)) (passing commands (λ c. trueAt known values (modelOf m .guard c))) ≡ sameEdges (modelOf m) (simulationOf (modelOf m) g) n
   same-edges p q = rw (p, q, passing-same (modelOf m .commands) (λ c. trueAt known values (modelOf m .guard c)) (enabledIn (modelOf m) (simulationOf (modelOf m) g) n) (λ c l. true-is node settled (node .model .model .commands c l .guard)))

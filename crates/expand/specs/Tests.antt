@@ -8,14 +8,11 @@ use lib.ListN.{getD}
 use lib.IntN.{ℤ, pos}
 use Rattle.folder.specs.Pick.{implies}
 use Rattle.folder.specs.Scan.{all}
-use Rattle.folder.specs.Tab.{tab, passing, sameList}
 use Rattle.folder.specs.Contents.{field, signedField}
 use Rattle.whole.specs.Order.{eqZ}
 use Rattle.expressions.specs.Reading.{hasBit}
 use Rattle.model.specs.Layout.{branchSize}
-use Rattle.model.specs.Model.{modelOf}
-use Rattle.graph.specs.Simulation.{nodeSize, commandIn, successorIn, simulationOf}
-use Rattle.graph.specs.Rules.{enabledIn, edgeFollows}
+use Rattle.graph.specs.Simulation.{nodeSize, commandIn, successorIn}
 
 -- Entry e reads known, false, or known with the value z, which is 1 for true.
 unfoldable pub knownAt : List ℕ → ℕ → Bool
@@ -48,17 +45,3 @@ module _ (variables : ℕ) (nb bs known : List ℕ) (values state : List ℤ) wh
 
   unfoldable pub branchesFollow : List ℕ → ℕ → ℕ → ℕ → Bool
   branchesFollow eb first branches p = all (λ b. branchFollows (first + b) (successorIn eb p b)) branches
-
--- What B1 and B2 ask of an expanded node n.
-module _ (m g : List ℕ) (n : ℕ) where
-  abbrev pub sameEdges : Bool
-  sameEdges =
-      let M = modelOf m in
-      let G = simulationOf M g in
-      sameList (tab (G .edges n) (G .command n)) (passing (M .commands) (enabledIn M G n))
-
-  abbrev pub allFollow : Bool
-  allFollow =
-      let M = modelOf m in
-      let G = simulationOf M g in
-      all (edgeFollows M G n) (G .edges n)

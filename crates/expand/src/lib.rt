@@ -14,10 +14,10 @@ ghost use Rattle.model.specs.Limits.{mostExpressions};
 ghost use Rattle.model.specs.Model.{modelOf};
 ghost use Rattle.model.specs.Valid.{Valid};
 ghost use Rattle.graph.specs.Simulation.{nodeSize, nodeField, simulationOf};
-ghost use Rattle.graph.specs.Rules.{A1, A2, B1, B2};
+ghost use Rattle.graph.specs.Rules.{A1, A2, sameEdges, B1, edgesFollow, B2};
 ghost use Rattle.graph.specs.Walks.{startsAt};
 ghost use Rattle.expand.specs.Node.{NodeOf, LabelSettled, StateSettled, FirstsOf};
-ghost use Rattle.expand.specs.Tests.{knownAt, falseAt, readsAt, namesAt, variableFollows, branchFollows, branchesFollow, sameEdges, allFollow};
+ghost use Rattle.expand.specs.Tests.{knownAt, falseAt, readsAt, namesAt, variableFollows, branchFollows, branchesFollow};
 
 // Fills the front of a row with the values of node n whose first is field f: 6 for the concrete label, and as many more
 // as there are variables for the abstract one.
@@ -153,7 +153,7 @@ fn edges_enabled(m: &[u8], g: &[u8], n: usize, at: usize, known: &[u8], values: 
     requires { ⌜ NodeOf (now m) (now g) n ⌝ }
     requires { ⌜ at ≡ startsAt (modelOf (now m)) (now g) n ⌝ }
     requires { ⌜ LabelSettled (now m) (now g) n (now known) (now values) ⌝ }
-    ensures { λ r. ⌜ r ≡ sameEdges (now (m .entry)) (now (g .entry)) n ⌝ }
+    ensures { λ r. ⌜ r ≡ sameEdges (modelOf (now (m .entry))) (simulationOf (modelOf (now (m .entry))) (now (g .entry))) n ⌝ }
 {
     let cs = folder::body(m, 3);
     let eb = folder::body(g, 1);
@@ -285,7 +285,7 @@ fn edges_follow(
     requires { ⌜ FirstsOf (now m) (now firsts) ⌝ }
     requires { ⌜ LabelSettled (now m) (now g) n (now known) (now values) ⌝ }
     requires { ⌜ StateSettled (now m) (now g) n (now state) ⌝ }
-    ensures { λ r. ⌜ r ≡ allFollow (now (m .entry)) (now (g .entry)) n ⌝ }
+    ensures { λ r. ⌜ r ≡ edgesFollow (modelOf (now (m .entry))) (simulationOf (modelOf (now (m .entry))) (now (g .entry))) n ⌝ }
 {
     let vars = graph::variable_count(m);
     let cs = folder::body(m, 3);

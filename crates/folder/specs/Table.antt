@@ -20,13 +20,13 @@ abbrev pub refused : ℕ → ℕ → Outcome
 refused n p = Refused (refusal n p)
 
 -- Document 01's number of an outcome, and what is returned with it. Acceptance has none: 0.
-abbrev pub numberOf : Outcome → ℕ
-numberOf Accepted = 0
-numberOf (Refused r) = r .number
+abbrev pub outcomeNumber : Outcome → ℕ
+outcomeNumber Accepted = 0
+outcomeNumber (Refused r) = r .number
 
-abbrev pub placeOf : Outcome → ℕ
-placeOf Accepted = 0
-placeOf (Refused r) = r .place
+abbrev pub outcomePlace : Outcome → ℕ
+outcomePlace Accepted = 0
+outcomePlace (Refused r) = r .place
 
 -- A row: places 0 to count − 1, the test of each, and the refusal that a broken one gives.
 pub record Row : Type 0 where

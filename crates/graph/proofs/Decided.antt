@@ -34,7 +34,7 @@ use Rattle.model.specs.Chances.{mdp}
 use Rattle.graph.specs.Limits.{leastBytes, mostBytes, mostNodes, units, mostSteps}
 use Rattle.graph.specs.Simulation.{Simulation, bodies, nodeSize, nodeCount, simulationOf, graph}
 use Rattle.graph.specs.Labels.{tracks, concreteState, numberOf, truthOf}
-use Rattle.graph.specs.Rules.{bytesFit, nodesFit, headFits, valuesFit, nodeFits, edgeFits, edgesFit, rootFits, A1, A2, enabledIn, B1, resultIs, labelFollows, follows, edgeFollows, B2, C3, C1, C2, valueFits}
+use Rattle.graph.specs.Rules.{bytesFit, nodesFit, headFits, valuesFit, nodeFits, edgeFits, edgesFit, rootFits, A1, A2, enabledIn, B1, resultIs, labelFollows, follows, edgeFollows, B2, C3, C1, C2, valueRule}
 use Rattle.graph.specs.Table.{folderRows, contentRows, firstRows, nodeRules, ruleRows, graphRows, graphOutcome}
 use Rattle.model.specs.Table.{modelRows}
 use Rattle.model.proofs.Decided.{model-asks}
@@ -184,8 +184,8 @@ module _ (M : Model) (G : Simulation) where
       (everywhere (M .variables) (λ v l.
       whenever (passes (tracks G (G .cover n) v)) (passes (tracks G n v) ∧also equal-decided (G .label n v) (G .label (G .cover n) v))))
 
-  pub value-decided : (value : ℕ → ℕ) (n : ℕ) → Decides (RightValue M G value n) (valueFits M G value n)
-  unfolding valueFits
+  pub value-decided : (value : ℕ → ℕ) (n : ℕ) → Decides (RightValue M G value n) (valueRule M G value n)
+  unfolding valueRule
   value-decided value n = reworded
       (λ h. record { waiting = h .0 .0; target = h .0 .1; expanded = h .1 .0; covered = h .1 .1 })
       (λ r. ((r .waiting, r .target), (r .expanded, r .covered)))

@@ -84,8 +84,11 @@ module _ (M : Model) (G : Simulation) where
   abbrev pub enabledIn : ℕ → ℕ → Bool
   enabledIn n c = isTrue (truthOf M G n (M .guard c))
 
+  abbrev pub sameEdges : ℕ → Bool
+  sameEdges n = sameList (tab (G .edges n) (G .command n)) (passing (M .commands) (enabledIn n))
+
   unfoldable pub B1 : ℕ → Bool
-  B1 n = implies (isExpanded G n) (sameList (tab (G .edges n) (G .command n)) (passing (M .commands) (enabledIn n)))
+  B1 n = implies (isExpanded G n) (sameEdges n)
 
   -- Row 21, B2: the successor s of node n by branch record r. Its concrete label is the branch's result, and each
   -- variable that it tracks reads known in n's label, with s's label value.
@@ -101,8 +104,11 @@ module _ (M : Model) (G : Simulation) where
   unfoldable pub edgeFollows : ℕ → ℕ → Bool
   edgeFollows n e = all (λ b. follows n (firstRecord M (G .command n e) + b) (G .successor n e b)) (M .branches (G .command n e))
 
+  abbrev pub edgesFollow : ℕ → Bool
+  edgesFollow n = all (edgeFollows n) (G .edges n)
+
   unfoldable pub B2 : ℕ → Bool
-  B2 n = implies (isExpanded G n) (all (edgeFollows n) (G .edges n))
+  B2 n = implies (isExpanded G n) (edgesFollow n)
 
   -- Row 22, C3: a covered node's cover is there, and is not itself covered.
   unfoldable pub C3 : ℕ → Bool
@@ -119,8 +125,8 @@ module _ (M : Model) (G : Simulation) where
       (all (λ v. implies (tracks G (G .cover n) v) (tracks G n v && eqZ (G .label n v) (G .label (G .cover n) v))) (M .variables))
 
   -- Row 25: the value rule, of any value for each node.
-  unfoldable pub valueFits : (ℕ → ℕ) → ℕ → Bool
-  valueFits value n =
+  unfoldable pub valueRule : (ℕ → ℕ) → ℕ → Bool
+  valueRule value n =
       (implies (isWaiting G n) (eqb (value n) units) && implies (isTarget G n) (eqb (value n) units))
       && (implies (isExpanded G n) (all (λ e. leb (along (mdp M) (graph G) value n e) (M .total * value n)) (G .edges n))
       && implies (isCovered G n) (leb (value (G .cover n)) (value n)))

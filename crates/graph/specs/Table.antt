@@ -12,7 +12,7 @@ use Rattle.folder.specs.declared.Outcome.the-variants as O
 use Rattle.model.specs.Model.{Model, modelOf}
 use Rattle.model.specs.Table.{modelRows}
 use Rattle.graph.specs.Simulation.{Simulation, bodies, simulationOf}
-use Rattle.graph.specs.Rules.{bytesFit, nodesFit, nodeFits, edgesFit, rootFits, A1, A2, B1, B2, C3, C1, C2, valueFits}
+use Rattle.graph.specs.Rules.{bytesFit, nodesFit, nodeFits, edgesFit, rootFits, A1, A2, B1, B2, C3, C1, C2, valueRule}
 use Rattle.graph.specs.declared.Summary.{Summary}
 use Rattle.graph.specs.declared.GraphAnswer.{GraphAnswer}
 use Rattle.graph.specs.declared.GraphAnswer.the-variants.{Accepted, Refused}
@@ -39,7 +39,7 @@ nodeRules M G n =
     ∷ rule 22 (C3 M G n)
     ∷ rule 23 (C1 M G n)
     ∷ rule 24 (C2 M G n)
-    ∷ rule 25 (valueFits M G (G .value) n)
+    ∷ rule 25 (valueRule M G (G .value) n)
     ∷ []
 
 -- All nodes' rules, one node after the other.

@@ -18,7 +18,7 @@ use Rattle.model.specs.Model.{Model, modelOf}
 use Rattle.model.specs.Chances.{mdp}
 use Rattle.graph.specs.Limits.{mostBytes, units}
 use Rattle.graph.specs.Simulation.{Simulation, edgeAt, nodeSize, nodeCount, simulationOf, graph}
-use Rattle.graph.specs.Rules.{valueFits}
+use Rattle.graph.specs.Rules.{valueRule}
 use Rattle.graph.specs.Simulation.{edgeAfter}
 use Rattle.rounds.specs.Edges.{sumAt, after, EdgesReady, sumOf}
 use Rattle.folder.specs.Tab.{fill}
@@ -90,6 +90,6 @@ module _ {m g values weights firsts : List ℕ} {n at : ℕ} (A : ValueReady m g
         → r ≡ firstBad (sumFits cs eb weights firsts values at limit) count
         → ((implies (eqb kind 0) (eqb value units) && implies (eqb kind 3) (eqb value units))
         && (implies (eqb kind 1) (eqb r count) && implies (eqb kind 2) (leb over value)))
-        ≡ valueFits M G (λ k. getD values k 0) n
-    unfolding valueFits
+        ≡ valueRule M G (λ k. getD values k 0) n
+    unfolding valueRule
     value-is {limit = limit} a b x y z e = rw (sums-fit limit e, a, y, b, z, x, P .variables, P .nodes) refl

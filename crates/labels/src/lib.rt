@@ -16,7 +16,7 @@ ghost use Rattle.model.specs.Layout.{variableCount};
 ghost use Rattle.model.specs.Model.{modelOf};
 ghost use Rattle.graph.specs.Limits.{mostBytes, mostNodes};
 ghost use Rattle.graph.specs.Simulation.{nodeSize, nodeCount, simulationOf};
-ghost use Rattle.graph.specs.Rules.{A1, C3, C1, C2, valueFits};
+ghost use Rattle.graph.specs.Rules.{A1, C3, C1, C2, valueRule};
 ghost use Rattle.rounds.specs.Edges.{EdgesReady};
 ghost use Rattle.folder.specs.Tab.{fill};
 ghost use Rattle.labels.specs.Agree.{agreesAt};
@@ -181,7 +181,7 @@ fn first_above(
 
 // Row 25, of any value for each node, in `values`. The edges of node n start at `at`; a node that is not expanded has none
 // (row 15), so that nothing is walked for it.
-pub fn value_fits(
+pub fn value_rule(
     m: &[u8],
     g: &[u8],
     values: &[u32],
@@ -191,7 +191,7 @@ pub fn value_fits(
     at: usize,
 ) -> bool
     requires { ⌜ ValueReady (now m) (now g) (now values) (now weights) (now firsts) n at ⌝ }
-    ensures { λ r. ⌜ r ≡ valueFits (modelOf (now (m .entry))) (simulationOf (modelOf (now (m .entry))) (now (g .entry))) (λ k. getD (now (values .entry)) k 0) n ⌝ }
+    ensures { λ r. ⌜ r ≡ valueRule (modelOf (now (m .entry))) (simulationOf (modelOf (now (m .entry))) (now (g .entry))) (λ k. getD (now (values .entry)) k 0) n ⌝ }
 {
     let vars = model::variable_count(m);
     let nb = folder::body(g, 0);

@@ -22,7 +22,7 @@ use Rattle.model.specs.Chances.{next}
 use Rattle.model.specs.Step as Step
 use Rattle.model.specs.Pedal.{pedalModel}
 use Rattle.graph.specs.Simulation.{edgeSize, edgeAfter, edgesStart, edgeWhole, edgeAt, kindOf}
-use Rattle.graph.specs.Rules.{nodesFit, headFits, valuesFit, nodeFits, edgeFits, edgesFit, rootFits, A1, A2, B1, resultIs, labelFollows, follows, edgeFollows, B2, C3, C1, C2, valueFits}
+use Rattle.graph.specs.Rules.{nodesFit, headFits, valuesFit, nodeFits, edgeFits, edgesFit, rootFits, A1, A2, B1, resultIs, labelFollows, follows, edgeFollows, B2, C3, C1, C2, valueRule}
 use Rattle.graph.specs.Table.{graphOutcome, graphAnswer}
 use Rattle.graph.specs.Figures.{figures, figureOutcome, figurePart}
 use Rattle.laguipy.specs.Cases.{Case, Told, checked, figured, stepped, cases}
@@ -35,7 +35,7 @@ use Rattle.graph.proofs.Demand.{demand-3}
 
 -- All that the calls are defined by, opened.
 unfoldable computing : ℕ
-unfolding u16 u32 signed16 dueStart entryOk body countOf field field4 firstBad tab passing sameList outcome allRules firstBroken numberFormOf truthFormOf numberForm truthForm isNumber isTruth numberAt truthAt minZ maxZ eqZ readNumber readTruth rangeOf inside depthOf numberFits truthFits entryFits rangeFits recordSize recordCount bound recordsFit variableFits termsFit commandFits recordsAddUp assignedFits branchFits weightsTotal next Step.valueFits Step.stepOutcome Step.stepRow edgeSize edgeAfter edgesStart edgeWhole edgeAt kindOf hasBit lookIn nodesFit headFits valuesFit nodeFits edgeFits edgesFit rootFits A1 A2 B1 resultIs labelFollows follows edgeFollows B2 C3 C1 C2 valueFits graphOutcome graphAnswer round figures figureOutcome figurePart
+unfolding u16 u32 signed16 dueStart entryOk body countOf field field4 firstBad tab passing sameList outcome allRules firstBroken numberFormOf truthFormOf numberForm truthForm isNumber isTruth numberAt truthAt minZ maxZ eqZ readNumber readTruth rangeOf inside depthOf numberFits truthFits entryFits rangeFits recordSize recordCount bound recordsFit variableFits termsFit commandFits recordsAddUp assignedFits branchFits weightsTotal next Step.valueFits Step.stepOutcome Step.stepRow edgeSize edgeAfter edgesStart edgeWhole edgeAt kindOf hasBit lookIn nodesFit headFits valuesFit nodeFits edgeFits edgesFit rootFits A1 A2 B1 resultIs labelFollows follows edgeFollows B2 C3 C1 C2 valueRule graphOutcome graphAnswer round figures figureOutcome figurePart
 computing = 0
 
 pub cases-hold : map (λ (c : Case). c .told) cases ≡ map (λ (c : Case). c .due) cases

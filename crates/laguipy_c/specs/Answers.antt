@@ -1,5 +1,5 @@
--- Answers as numbers, for a caller who has no enums and no parts of slices. An outcome's own are `numberOf` and
--- `placeOf`.
+-- Answers as numbers, for a caller who has no enums and no parts of slices. An outcome's own are `outcomeNumber` and
+-- `outcomePlace`.
 -- Assumes nothing.
 use Prim.Native.Nat.{ℕ}
 use mathlib.Core.List.{List, [], _∷_}

@@ -6,7 +6,7 @@ use graph::GraphAnswer;
 ghost use mathlib.Core.Path.{_≡_};
 ghost use Prim.Native.Nat.{_<_};
 ghost use Rattle.folder.specs.Pick.{pick};
-ghost use Rattle.folder.specs.Table.{numberOf, placeOf, outcome};
+ghost use Rattle.folder.specs.Table.{outcomeNumber, outcomePlace, outcome};
 ghost use Rattle.folder.specs.declared.Outcome.the-variants.{Accepted};
 ghost use Rattle.model.specs.Table.{folderRows, modelOutcome};
 ghost use Rattle.model.specs.View.{viewStart};
@@ -16,7 +16,7 @@ ghost use Rattle.graph.specs.Figures.{figureOutcome, inFirst, firstRow, secondR
 ghost use Rattle.laguipy_c.specs.Answers.{viewPlace, figurePlace};
 
 fn number_of(o: Outcome) -> usize
-    ensures { λ r. ⌜ r ≡ numberOf o ⌝ }
+    ensures { λ r. ⌜ r ≡ outcomeNumber o ⌝ }
 {
     match o {
         Outcome::Accepted => 0,
@@ -25,7 +25,7 @@ fn number_of(o: Outcome) -> usize
 }
 
 fn place_of(o: Outcome) -> usize
-    ensures { λ r. ⌜ r ≡ placeOf o ⌝ }
+    ensures { λ r. ⌜ r ≡ outcomePlace o ⌝ }
 {
     match o {
         Outcome::Accepted => 0,
@@ -63,8 +63,8 @@ fn answer_values(a: GraphAnswer) -> [usize; 5]
 // The model check.
 #[no_mangle]
 pub extern "C" fn laguipy_model_check(model: &[u8], place: &mut usize) -> usize
-    ensures { λ r. ⌜ r ≡ numberOf (modelOutcome (now (model .entry))) ⌝ }
-    ensures { λ _. ⌜ now (place .exit) ≡ placeOf (modelOutcome (now (model .entry))) ⌝ }
+    ensures { λ r. ⌜ r ≡ outcomeNumber (modelOutcome (now (model .entry))) ⌝ }
+    ensures { λ _. ⌜ now (place .exit) ≡ outcomePlace (modelOutcome (now (model .entry))) ⌝ }
 {
     let o = laguipy::model_check(model);
     *place = place_of(o);
@@ -136,8 +136,8 @@ pub extern "C" fn laguipy_figure_refusal(
     second: &[u32],
     place: &mut usize,
 ) -> usize
-    ensures { λ r. ⌜ r ≡ numberOf (figureOutcome (now (model .entry)) (now (graph .entry)) h (now (first .entry)) (now (second .entry))) ⌝ }
-    ensures { λ _. ⌜ now (place .exit) ≡ placeOf (figureOutcome (now (model .entry)) (now (graph .entry)) h (now (first .entry)) (now (second .entry))) ⌝ }
+    ensures { λ r. ⌜ r ≡ outcomeNumber (figureOutcome (now (model .entry)) (now (graph .entry)) h (now (first .entry)) (now (second .entry))) ⌝ }
+    ensures { λ _. ⌜ now (place .exit) ≡ outcomePlace (figureOutcome (now (model .entry)) (now (graph .entry)) h (now (first .entry)) (now (second .entry))) ⌝ }
 {
     let o = laguipy::figure_refusal(model, graph, h, first, second);
     *place = place_of(o);
@@ -154,10 +154,10 @@ pub extern "C" fn laguipy_figure_rows(
     second: &mut [u32],
     place: &mut usize,
 ) -> usize
-    ensures { λ r. ⌜ r ≡ numberOf (figureOutcome (now (model .entry)) (now (graph .entry)) h (now (first .entry)) (now (second .entry))) ⌝ }
+    ensures { λ r. ⌜ r ≡ outcomeNumber (figureOutcome (now (model .entry)) (now (graph .entry)) h (now (first .entry)) (now (second .entry))) ⌝ }
     ensures { λ _. ⌜ now (first .exit) ≡ firstRow (now (model .entry)) (now (graph .entry)) h (now (first .entry)) (now (second .entry)) ⌝ }
     ensures { λ _. ⌜ now (second .exit) ≡ secondRow (now (model .entry)) (now (graph .entry)) h (now (first .entry)) (now (second .entry)) ⌝ }
-    ensures { λ _. ⌜ now (place .exit) ≡ placeOf (figureOutcome (now (model .entry)) (now (graph .entry)) h (now (first .entry)) (now (second .entry))) ⌝ }
+    ensures { λ _. ⌜ now (place .exit) ≡ outcomePlace (figureOutcome (now (model .entry)) (now (graph .entry)) h (now (first .entry)) (now (second .entry))) ⌝ }
 {
     let o = laguipy::figure_rows(model, graph, h, first, second);
     *place = place_of(o);
@@ -182,10 +182,10 @@ pub extern "C" fn laguipy_figure(
     place: &mut usize,
     part: &mut [usize; 2],
 ) -> usize
-    ensures { λ r. ⌜ r ≡ numberOf (figureOutcome (now (model .entry)) (now (graph .entry)) h (now (first .entry)) (now (second .entry))) ⌝ }
+    ensures { λ r. ⌜ r ≡ outcomeNumber (figureOutcome (now (model .entry)) (now (graph .entry)) h (now (first .entry)) (now (second .entry))) ⌝ }
     ensures { λ _. ⌜ now (first .exit) ≡ firstRow (now (model .entry)) (now (graph .entry)) h (now (first .entry)) (now (second .entry)) ⌝ }
     ensures { λ _. ⌜ now (second .exit) ≡ secondRow (now (model .entry)) (now (graph .entry)) h (now (first .entry)) (now (second .entry)) ⌝ }
-    ensures { λ _. ⌜ now (place .exit) ≡ placeOf (figureOutcome (now (model .entry)) (now (graph .entry)) h (now (first .entry)) (now (second .entry))) ⌝ }
+    ensures { λ _. ⌜ now (place .exit) ≡ outcomePlace (figureOutcome (now (model .entry)) (now (graph .entry)) h (now (first .entry)) (now (second .entry))) ⌝ }
     ensures { λ _. ⌜ now (part .exit) ≡ figurePlace (now (model .entry)) (now (graph .entry)) h (now (first .entry)) (now (second .entry)) ⌝ }
 {
     let o = laguipy::figure_rows(model, graph, h, first, second);
@@ -214,9 +214,9 @@ pub extern "C" fn laguipy_step(
     result: &mut [i16],
     place: &mut usize,
 ) -> usize
-    ensures { λ r. ⌜ r ≡ numberOf (stepOutcome (now (model .entry)) (now (state .entry)) command branch (now (result .entry))) ⌝ }
+    ensures { λ r. ⌜ r ≡ outcomeNumber (stepOutcome (now (model .entry)) (now (state .entry)) command branch (now (result .entry))) ⌝ }
     ensures { λ _. ⌜ now (result .exit) ≡ stepRow (now (model .entry)) (now (state .entry)) command branch (now (result .entry)) ⌝ }
-    ensures { λ _. ⌜ now (place .exit) ≡ placeOf (stepOutcome (now (model .entry)) (now (state .entry)) command branch (now (result .entry))) ⌝ }
+    ensures { λ _. ⌜ now (place .exit) ≡ outcomePlace (stepOutcome (now (model .entry)) (now (state .entry)) command branch (now (result .entry))) ⌝ }
 {
     let o = laguipy::step(model, state, command, branch, result);
     *place = place_of(o);

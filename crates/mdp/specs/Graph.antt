@@ -1,10 +1,10 @@
 -- Simulation graphs: what the rules on labels give, the value rule, and document 01's "Figures".
 -- Assumes nothing.
-use Prim.Native.Nat.{ℕ, zero, suc, _+_, _-_, _*_, _/_, _≤_, _<_}
+use Prim.Native.Nat.{ℕ, zero, suc, _*_, _≤_, _<_}
 use mathlib.Core.Path.{_≡_}
 use mathlib.Core.Logic.{_≢_}
 use mathlib.Core.Bool.{true, false}
-use Rattle.mdp.specs.Sums.{sum, greatest}
+use Rattle.mdp.specs.Sums.{sum, greatest, roundedUp}
 use Rattle.mdp.specs.Mdp.{Mdp}
 use Rattle.mdp.specs.Kinds.{Kind}
 
@@ -90,7 +90,7 @@ module _ (M : Mdp) (G : Graph) where
 
     -- Divided by D and rounded up.
     abbrev pub up : ℕ → ℕ
-    up x = (x + (D - 1)) / D
+    up x = roundedUp x D
 
     -- The figure of node n for h steps.
     abbrev pub figure : ℕ → ℕ → ℕ

@@ -1,6 +1,6 @@
--- Sums and greatest values over the whole numbers below n.
+-- Sums and greatest values over the whole numbers below n, and division rounded up.
 -- Assumes nothing.
-use Prim.Native.Nat.{ℕ, zero, suc, _+_, _<_, max}
+use Prim.Native.Nat.{ℕ, zero, suc, _+_, _-_, _/_, _<_, max}
 use native.Mathlib.Nat.{le-step, le-refl}
 use mathlib.Core.Bool.{Bool, true, false}
 
@@ -13,6 +13,10 @@ sum (suc n) f = sum n (λ i h. f i (le-step h)) + f n (le-refl (suc n))
 abbrev pub greatest : (n : ℕ) → ((i : ℕ) → i < n → ℕ) → ℕ
 greatest zero f = 0
 greatest (suc n) f = max (greatest n (λ i h. f i (le-step h))) (f n (le-refl (suc n)))
+
+-- x / d, rounded up.
+abbrev pub roundedUp : ℕ → ℕ → ℕ
+roundedUp x d = (x + (d - 1)) / d
 
 infix 10 if_then_else_
 abbrev pub if_then_else_ : Bool → ℕ → ℕ → ℕ

@@ -26,7 +26,7 @@ use Rattle.folder.specs.Tab.{fill}
 use Rattle.folder.proofs.FillLaws.{getD-filled, getD-kept, length-fill}
 use Rattle.labels.specs.Values.{ValueReady}
 use Rattle.expand.specs.Node.{NodeOf, FirstsOf}
-use Rattle.nodes.specs.Ready.{Ready, readingRules}
+use Rattle.nodes.specs.Ready.{RulesReady, readingRules}
 use Rattle.nodes.proofs.RuleLaws.{Numbered, none, more}
 
 module _ (m g : List ℕ) (n : ℕ) where
@@ -44,7 +44,7 @@ nothing-asked m g n e a b = rw (ne-eqb (nodeField (modelOf m) g n 0) 1 (λ q. a 
 pub few-enough : {m g : List ℕ} {n : ℕ} → NodeOf m g n → (variableCount m ≤ mostVariables) × (n ≤ 65536)
 few-enough node = (few-variables (node .model), omega (arith, node .there, node .rows .folder .few))
 
-module _ {m g values weights firsts : List ℕ} (r : Ready m g values weights firsts) where
+module _ {m g values weights firsts : List ℕ} (r : RulesReady m g values weights firsts) where
   pub node-of : {n : ℕ} → n < nodeCount (modelOf m) g → NodeOf m g n
   node-of l = record { model = r .model; rows = r .rows; there = l }
 
@@ -100,7 +100,7 @@ module _ (m g : List ℕ) (rows : RowsRight (modelOf m) g) where
 
 -- The tables as they are filled.
 pub ready-of : {m g values weights firsts : List ℕ} → Valid m → (rows : RowsRight (modelOf m) g) → Tables (modelOf m) weights firsts
-    → values ≡ fill (nodeCount (modelOf m) g) (simulationOf (modelOf m) g .value) (replicate 4096 0) → Ready m g values weights firsts
+    → values ≡ fill (nodeCount (modelOf m) g) (simulationOf (modelOf m) g .value) (replicate 4096 0) → RulesReady m g values weights firsts
 ready-of {m} {g} {values} valid rows tables e = record {
   model = valid;
   rows = rows;

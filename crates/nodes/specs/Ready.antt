@@ -8,11 +8,11 @@ use Rattle.folder.specs.Table.{Rule, rule}
 use Rattle.model.specs.Model.{Model, modelOf}
 use Rattle.model.specs.Valid.{Valid}
 use Rattle.graph.specs.Simulation.{Simulation, nodeCount, simulationOf}
-use Rattle.graph.specs.Rules.{A2, B1, B2, C3, C1, C2, valueFits}
+use Rattle.graph.specs.Rules.{A2, B1, B2, C3, C1, C2, valueRule}
 use Rattle.graph.specs.Valid.{RowsRight}
 use Rattle.rounds.specs.Rounds.{Tables}
 
-pub record Ready (m g values weights firsts : List ℕ) : Type 0 where
+pub record RulesReady (m g values weights firsts : List ℕ) : Type 0 where
   pub model : Valid m
   pub rows : RowsRight (modelOf m) g
   pub tables : Tables (modelOf m) weights firsts
@@ -32,4 +32,4 @@ module _ (m g : List ℕ) (n : ℕ) where
   readingRules = rule 19 (A2 M G n) ∷ rule 20 (B1 M G n) ∷ rule 21 (B2 M G n) ∷ []
 
   abbrev pub coverRules : List Rule
-  coverRules = rule 22 (C3 M G n) ∷ rule 23 (C1 M G n) ∷ rule 24 (C2 M G n) ∷ rule 25 (valueFits M G (G .value) n) ∷ []
+  coverRules = rule 22 (C3 M G n) ∷ rule 23 (C1 M G n) ∷ rule 24 (C2 M G n) ∷ rule 25 (valueRule M G (G .value) n) ∷ []

@@ -18,7 +18,7 @@ ghost use Rattle.graph.specs.Table.{nodeRules, ruleRows, graphRows, summary};
 ghost use Rattle.graph.specs.Valid.{RowsRight};
 ghost use Rattle.graph.specs.Walks.{startsAt};
 ghost use Rattle.expand.specs.Node.{NodeOf, FirstsOf};
-ghost use Rattle.nodes.specs.Ready.{Ready, readingRules, coverRules};
+ghost use Rattle.nodes.specs.Ready.{RulesReady, readingRules, coverRules};
 
 fn skip_edges(m: &[u8], g: &[u8], n: usize, at: usize) -> usize
     requires { ⌜ NodeOf (now m) (now g) n ⌝ }
@@ -96,7 +96,7 @@ fn cover_rules(
     firsts: &[usize],
 ) -> usize
     requires { ⌜ NodeOf (now m) (now g) n ⌝ }
-    requires { ⌜ Ready (now m) (now g) (now values) (now weights) (now firsts) ⌝ }
+    requires { ⌜ RulesReady (now m) (now g) (now values) (now weights) (now firsts) ⌝ }
     requires { ⌜ at ≡ startsAt (modelOf (now m)) (now g) n ⌝ }
     ensures { λ r. ⌜ r ≡ firstBroken (coverRules (now (m .entry)) (now (g .entry)) n) ⌝ }
 {
@@ -109,7 +109,7 @@ fn cover_rules(
     if !labels::c2(m, g, n) {
         return 24;
     }
-    if labels::value_fits(m, g, values, weights, firsts, n, at) {
+    if labels::value_rule(m, g, values, weights, firsts, n, at) {
         0
     } else {
         25
@@ -127,7 +127,7 @@ fn first_broken(
     firsts: &[usize],
 ) -> usize
     requires { ⌜ NodeOf (now m) (now g) n ⌝ }
-    requires { ⌜ Ready (now m) (now g) (now values) (now weights) (now firsts) ⌝ }
+    requires { ⌜ RulesReady (now m) (now g) (now values) (now weights) (now firsts) ⌝ }
     requires { ⌜ at ≡ startsAt (modelOf (now m)) (now g) n ⌝ }
     ensures { λ r. ⌜ r ≡ firstBroken (nodeRules (modelOf (now (m .entry))) (simulationOf (modelOf (now (m .entry))) (now (g .entry))) n) ⌝ }
 {
@@ -143,7 +143,7 @@ fn first_broken(
 
 // The rules of all nodes, with the tables they look in.
 fn all_nodes(m: &[u8], g: &[u8], values: &[u32], weights: &[usize], firsts: &[usize]) -> Outcome
-    requires { ⌜ Ready (now m) (now g) (now values) (now weights) (now firsts) ⌝ }
+    requires { ⌜ RulesReady (now m) (now g) (now values) (now weights) (now firsts) ⌝ }
     ensures { λ r. ⌜ r ≡ outcome (ruleRows (modelOf (now (m .entry))) (simulationOf (modelOf (now (m .entry))) (now (g .entry)))) ⌝ }
 {
     let nodes = graph::node_count(m, g);

@@ -1,12 +1,12 @@
 -- One round from the row of the last one, in the words of mdp's rounds; and what the rows hold after h of them.
 -- Assumes nothing.
-use Prim.Native.Nat.{ℕ, _+_, _-_, _/_, _≤_, _<_}
+use Prim.Native.Nat.{ℕ, _≤_, _<_}
 use mathlib.Core.Path.{_≡_}
 use mathlib.Core.Bool.{Bool}
 use mathlib.Core.List.{List}
 use lib.ListN.{length, getD}
 use lib.Dec.{eqb}
-use Rattle.mdp.specs.Sums.{sum}
+use Rattle.mdp.specs.Sums.{sum, roundedUp}
 use Rattle.mdp.specs.Graph.{start, again, shared, up, figure}
 use Rattle.folder.specs.Pick.{pick}
 use Rattle.folder.specs.Tab.{fill}
@@ -47,7 +47,7 @@ pub record Round (nodes : ℕ) (row : List ℕ) : Type 0 where
 
 -- The figure of a node by its kind, unless it is covered: `best` is the greatest sum over its edges.
 unfoldable pub figureBy : ℕ → ℕ → ℕ → ℕ
-figureBy kind best d = pick (eqb kind 1) ((best + (d - 1)) / d) (pick (eqb kind 2) 0 units)
+figureBy kind best d = pick (eqb kind 1) (roundedUp best d) (pick (eqb kind 2) 0 units)
 
 -- Whose figure a node takes: its cover's, if it has one.
 unfoldable pub source : Simulation → ℕ → ℕ

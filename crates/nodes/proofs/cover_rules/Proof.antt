@@ -8,7 +8,7 @@ use lib.ListN.{drop}
 use Rattle.folder.specs.Table.{Rule}
 use Rattle.model.specs.Model.{modelOf}
 use Rattle.graph.specs.Simulation.{simulationOf}
-use Rattle.graph.specs.Rules.{valueFits}
+use Rattle.graph.specs.Rules.{valueRule}
 use Rattle.nodes.specs.Ready.{coverRules}
 use Rattle.nodes.proofs.RuleLaws.{Left, no-rule, rule-breaks, rule-holds, rules-over}
 use Rattle.nodes.proofs.NodeLaws.{few-enough, value-ready}
@@ -29,10 +29,10 @@ past3 c = rule-holds (past2 (c .before .before)) (c .before .c2 .ensures) (not-f
 
 -- the values are those of the graph
 abbrev valued : tie.Start → (ℕ → ℕ) → Bool
-valued c v = valueFits (modelOf (now (c .args .m))) (simulationOf (modelOf (now (c .args .m))) (now (c .args .g))) v (c .args .n)
+valued c v = valueRule (modelOf (now (c .args .m))) (simulationOf (modelOf (now (c .args .m))) (now (c .args .g))) v (c .args .n)
 
-value-tested : (c : tie.After-value-fits) → c .value-fits .result ≡ valued (c .before .before .before .before .before .before .before .before .before .before .before .before) (simulationOf (modelOf (now (c .before .before .before .before .before .before .before .before .before .before .before .before .args .m))) (now (c .before .before .before .before .before .before .before .before .before .before .before .before .args .g)) .value)
-value-tested c = c .value-fits .ensures ∙ ap (valued (c .before .before .before .before .before .before .before .before .before .before .before .before)) (c .before .before .before .before .before .before .before .before .before .before .before .before .pre .1 .0 .valued)
+value-tested : (c : tie.After-value-rule) → c .value-rule .result ≡ valued (c .before .before .before .before .before .before .before .before .before .before .before .before) (simulationOf (modelOf (now (c .before .before .before .before .before .before .before .before .before .before .before .before .args .m))) (now (c .before .before .before .before .before .before .before .before .before .before .before .before .args .g)) .value)
+value-tested c = c .value-rule .ensures ∙ ap (valued (c .before .before .before .before .before .before .before .before .before .before .before .before)) (c .before .before .before .before .before .before .before .before .before .before .before .before .pre .1 .0 .valued)
 
 c3-requires : tie.Need-c3-requires
 c3-requires c κs = few-enough (c .before .before .before .before .before .pre .0)
@@ -52,8 +52,8 @@ c2-requires c κs = few-enough (c .before .before .before .before .before .befor
 returns-3 : tie.Need-returns-3
 returns-3 c = rule-breaks (past2 (c .before .before)) (c .before .c2 .ensures) (not-true _ (c .if3 .taken))
 
-value-fits-requires : tie.Need-value-fits-requires
-value-fits-requires c κs = let s = c .before .before .before .before .before .before .before .before .before .before .before in
+value-rule-requires : tie.Need-value-rule-requires
+value-rule-requires c κs = let s = c .before .before .before .before .before .before .before .before .before .before .before in
     value-ready (s .pre .1 .0) (s .pre .0) (s .pre .1 .1)
 
 returns-4 : tie.Need-returns-4
@@ -72,6 +72,6 @@ cover-rules-spec =
     returns-2
     c2-requires
     returns-3
-    value-fits-requires
+    value-rule-requires
     returns-4
     returns-5)

@@ -1,8 +1,8 @@
 use native.Mathlib.Omega.{arith}
 use Rattle.labels.proofs.ValueLaws.{few-variables, near, edges-short, ready, value-is}
 use borrow.Author.Needs.{needs}
-use Rattle.labels.proofs.value_fits.Statement.{statement}
-use Rattle.labels.proofs.value_fits.Tie as tie
+use Rattle.labels.proofs.value_rule.Statement.{statement}
+use Rattle.labels.proofs.value_rule.Tie as tie
 
 node-field-requires : tie.Need-node-field-requires
 node-field-requires c κs =
@@ -32,8 +32,8 @@ returns c =
     (c .before .before .before .before .before .before .before .before .node-field .ensures .0) (c .before .before .before .before .before .before .before .node-field2 .ensures .0) (c .before .before .before .before .before .value-at .ensures .0) (c .before .before .before .before .value-at2 .ensures .0)
     (c .before .limit-of .ensures) (c .first-above .ensures)
 
-pub value-fits-spec : {M : Type 1} → statement M
-value-fits-spec =
+pub value-rule-spec : {M : Type 1} → statement M
+value-rule-spec =
     tie.close
     (tie.spec
     (λ c κs. search needs)
