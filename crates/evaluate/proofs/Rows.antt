@@ -1,18 +1,23 @@
--- Rows that have the readings of lower entries give the reading of the next; rows filled upward have all of them.
+-- Rows that have the readings of lower entries give the reading of the next; rows filled upward have all of them, and in a
+-- state its numbers.
 -- Assumes nothing.
 use Prim.Native.Nat.{ℕ, _<_}
 use mathlib.Core.Path.{_≡_, refl, sym, ap, _∙_}
+use mathlib.Core.Bool.{Bool, true, false}
 use mathlib.Core.List.{List}
 use native.Mathlib.Omega.{arith}
 use borrow.Author.Tests.{not-true}
+use lib.Dec.{eqb}
 use lib.ListN.{getD}
 use lib.IntN.{ℤ, pos}
+use Rattle.folder.specs.Pick.{pick}
 use Rattle.folder.specs.Tab.{fill}
 use Rattle.folder.proofs.Decides.{unless}
 use Rattle.whole.specs.Order.{eqZ}
 use Rattle.folder.proofs.FillLaws.{getD-filled}
 use Rattle.expressions.specs.Entries.{Entries, numberForm, truthForm, isNumber}
 use Rattle.expressions.specs.Levels.{numberStep, truthStep, numberAt, truthAt}
+use Rattle.expressions.specs.Meaning.{State, numberIn}
 use Rattle.expressions.specs.Parts.{EachN, EachT, Lower}
 use Rattle.expressions.specs.Reading.{lookIn, reading, readNumber, readTruth}
 use Rattle.expressions.specs.Right.{IsNumber, IsTruth, NumberPart, TruthPart}
@@ -28,9 +33,9 @@ use Rattle.expressions.proofs.Decided.{number-decided}
 use Rattle.expressions.proofs.Levels.{equal, each-number, each-truth, lower, number-settled, truth-settled}
 use Rattle.expressions.proofs.Related.{number-step, truth-step}
 use Rattle.evaluate.specs.Bounded.{Small, Bounded}
-use Rattle.evaluate.specs.Formed.{Ready}
-use Rattle.evaluate.specs.Settled.{asNumber, flagOf, contentOf, numberFrom, truthFrom, entryReading, flagAt, contentAt, Settled}
-use Rattle.evaluate.proofs.Readable.{bounded}
+use Rattle.evaluate.specs.Formed.{Ready, Grounded}
+use Rattle.evaluate.specs.Settled.{asNumber, flagOf, contentOf, numberFrom, truthFrom, entryReading, flagAt, contentAt, Settled, StateRow}
+use Rattle.evaluate.proofs.Readable.{bounded, number-known, number-open}
 
 -- ---- a reading and what the rows have for it
 from-number : (a : Number) → numberFrom (flagOf a) (contentOf a) ≡ a
@@ -108,3 +113,15 @@ module _ (x : Entries) (t : ℕ) (v : List ℤ) (ready : Ready x t v) (e : ℕ) 
 
     pub parts-small : {g : NumberForm} (k : Arith) (p q : ℕ) → g ≡ numberForm x e → g ≡ Binary k p q → {a b : Number} → a ≡ num p → b ≡ num q → Small a × Small b
     parts-small k p q l f m n = let h = rw (sym l ∙ f) at number-parts in (part-small p (h .0) m, part-small q (h .1) n)
+
+-- ---- a state
+module _ (x : Entries) (s : State) (grounded : Grounded x s) (known : List ℕ) (values : List ℤ) (settled : Settled x (lookIn 65535 s) (x .count) known values) where
+  number-is : (e : ℕ) → IsNumber x e → (b : Bool) → pick b (Known (getD values e (pos 0))) Open ≡ readNumber x (lookIn 65535 s) e → getD values e (pos 0) ≡ numberIn x s e
+  number-is e i true h = number-known x s grounded e (getD values e (pos 0)) (sym h)
+  number-is e i false h = absurd (number-open x s grounded e i (sym h))
+
+  -- Rows that are settled in a state have its numbers.
+  pub state-row : StateRow x s values
+  state-row = record {
+    numbers = λ e i. number-is e i (eqb (getD known e 0) 1) (number-there x (lookIn 65535 s) (x .count) known values settled e (i .there) i);
+  }

@@ -9,7 +9,9 @@ use lib.IntN.{ℤ, pos}
 use Rattle.folder.specs.Pick.{pick}
 use Rattle.whole.specs.Order.{eqZ}
 use Rattle.expressions.specs.Entries.{Entries, isNumber}
+use Rattle.expressions.specs.Meaning.{State, numberIn}
 use Rattle.expressions.specs.Reading.{knownTruth, readNumber, readTruth}
+use Rattle.expressions.specs.Right.{IsNumber}
 use Rattle.expressions.specs.declared.Number.{Number}
 use Rattle.expressions.specs.declared.Number.the-variants.{Known, Unknown as Open}
 use Rattle.expressions.specs.declared.Truth.{Truth}
@@ -52,3 +54,7 @@ module _ (x : Entries) (look : ℕ → Number) where
   pub record Settled (n : ℕ) (known : List ℕ) (values : List ℤ) : Type 0 where
     pub flags : (e : ℕ) → e < n → getD known e 0 ≡ flagAt e
     pub contents : (e : ℕ) → e < n → getD values e (pos 0) ≡ contentAt e
+
+-- The row has what each number is in the state s.
+pub record StateRow (x : Entries) (s : State) (values : List ℤ) : Type 0 where
+  pub numbers : (e : ℕ) → IsNumber x e → getD values e (pos 0) ≡ numberIn x s e

@@ -5,29 +5,25 @@ use native.Mathlib.Nat.{div-lt-iff-lt-mul, one-le-pow}
 use native.Mathlib.Decide.{decLt}
 use native.Mathlib.Omega.{arith}
 use mathlib.Core.Path.{_≡_, sym, _∙_}
-use mathlib.Core.Bool.{Bool, true, false, false≢true}
+use mathlib.Core.Bool.{true, false≢true}
 use mathlib.Core.List.{List, _++_}
-use lib.Dec.{eqb}
-use lib.ListN.{getD, take, drop}
+use lib.ListN.{take, drop}
 use lib.Seq.{take-at}
 use lib.IntN.{ℤ, pos}
-use Rattle.folder.specs.Pick.{pick}
 use Rattle.folder.specs.Contents.{body, countOf, signedField}
 use Rattle.folder.specs.Tab.{tab}
 use Rattle.folder.proofs.Decides.{passes, everywhere, whenever}
 use Rattle.folder.proofs.TabLaws.{length-tab, getD-tab}
 use Rattle.whole.proofs.Order.{equal-decided}
 use Rattle.expressions.specs.Entries.{entriesOf}
-use Rattle.expressions.specs.Meaning.{valueOf, numberIn}
-use Rattle.expressions.specs.Reading.{lookIn, readNumber}
-use Rattle.expressions.specs.Right.{IsNumber}
-use Rattle.expressions.specs.declared.Number.the-variants.{Known, Unknown as Open}
+use Rattle.expressions.specs.Meaning.{valueOf}
+use Rattle.expressions.specs.Reading.{lookIn}
 use Rattle.expressions.proofs.Interval.{In}
 use Rattle.evaluate.specs.Formed.{Formed, Ready, Grounded}
 use Rattle.evaluate.specs.Settled.{Settled}
 use Rattle.expressions.proofs.Bits.{no-bit}
-use Rattle.evaluate.proofs.Readable.{ready, number-known, number-open}
-use Rattle.evaluate.proofs.Rows.{number-there}
+use Rattle.evaluate.proofs.Readable.{ready}
+use Rattle.evaluate.proofs.Rows.{state-row}
 use Rattle.model.specs.Limits.{mostExpressions}
 use Rattle.model.specs.Layout.{variableCount, recordSize, recordCount}
 use Rattle.model.specs.Model.{Model, modelOf, bound}
@@ -96,14 +92,7 @@ module _ {m g : List ℕ} {n : ℕ} (node : NodeOf m g n) where
 
   -- Rows that are settled in the state have its numbers.
   pub state-settled : {known : List ℕ} {values : List ℤ} → Settled (M .entries) (lookIn 65535 (concreteState M G n)) (M .entries .count) known values → StateSettled m g n values
-  state-settled {known} {values} s = record {
-    numbers = λ e i. go e i (eqb (getD known e 0) 1) (number-there (M .entries) (lookIn 65535 (concreteState M G n)) (M .entries .count) known values s e (i .there) i);
-  }
-    where
-      go : (e : ℕ) → IsNumber (M .entries) e → (b : Bool) → pick b (Known (getD values e (pos 0))) Open ≡ readNumber (M .entries) (lookIn 65535 (concreteState M G n)) e
-          → getD values e (pos 0) ≡ numberIn (M .entries) (concreteState M G n) e
-      go e i true h = number-known (M .entries) (concreteState M G n) state-grounded e (getD values e (pos 0)) (sym h)
-      go e i false h = absurd (number-open (M .entries) (concreteState M G n) state-grounded e i (sym h))
+  state-settled {known} {values} s = state-row (M .entries) (concreteState M G n) state-grounded known values s
 
   -- ---- the label: where A1 holds, its tracked values are the state's
   small-set : G .tracked n < 2 ^ M .variables

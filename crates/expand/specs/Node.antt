@@ -4,10 +4,8 @@ use Prim.Native.Nat.{ℕ, _<_, _≤_}
 use mathlib.Core.Path.{_≡_}
 use mathlib.Core.List.{List}
 use lib.ListN.{length, getD}
-use lib.IntN.{ℤ, pos}
-use Rattle.expressions.specs.Meaning.{numberIn}
-use Rattle.expressions.specs.Right.{IsNumber}
-use Rattle.evaluate.specs.Settled.{Settled}
+use lib.IntN.{ℤ}
+use Rattle.evaluate.specs.Settled.{Settled, StateRow}
 use Rattle.model.specs.Model.{modelOf, firstRecord}
 use Rattle.model.specs.Valid.{Valid}
 use Rattle.graph.specs.Simulation.{nodeCount, simulationOf}
@@ -25,10 +23,9 @@ module _ (m g : List ℕ) (n : ℕ) where
   abbrev pub LabelSettled : List ℕ → List ℤ → Type 0
   LabelSettled known values = Settled (modelOf m .entries) (look (modelOf m) (simulationOf (modelOf m) g) n) (modelOf m .entries .count) known values
 
-  -- The row has what each number is in the node's concrete state.
-  pub record StateSettled (state : List ℤ) : Type 0 where
-    pub numbers : (e : ℕ) → IsNumber (modelOf m .entries) e
-        → getD state e (pos 0) ≡ numberIn (modelOf m .entries) (concreteState (modelOf m) (simulationOf (modelOf m) g) n) e
+  -- The row has what each entry is in the node's concrete state.
+  abbrev pub StateSettled : List ℤ → Type 0
+  StateSettled state = StateRow (modelOf m .entries) (concreteState (modelOf m) (simulationOf (modelOf m) g) n) state
 
 -- The row has each command's first branch record.
 pub record FirstsOf (m : List ℕ) (firsts : List ℕ) : Type 0 where

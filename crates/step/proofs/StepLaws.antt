@@ -10,7 +10,7 @@ use lib.IntN.{ℤ, pos}
 use lib.Signed.{mag, _≤ℤ_}
 use Rattle.folder.specs.Scan.{firstBad}
 use Rattle.folder.specs.Contents.{body, countOf, field}
-use Rattle.folder.specs.Tab.{tab}
+use Rattle.folder.specs.Tab.{tab, fill}
 use Rattle.folder.specs.Table.{outcome}
 use Rattle.folder.specs.declared.Refusal.{Refusal}
 use Rattle.folder.specs.declared.Outcome.{Outcome}
@@ -18,13 +18,16 @@ use Rattle.folder.specs.declared.Outcome.the-variants.{Accepted, Refused}
 use Rattle.folder.proofs.Decides.{at-mostZ, _∧also_}
 use Rattle.folder.proofs.ScanLaws.{found}
 use Rattle.folder.proofs.TableLaws.{accepted-then, refused-then}
-use Rattle.folder.proofs.TabLaws.{getD-tab}
+use Rattle.folder.proofs.TabLaws.{getD-tab, tab-same}
 use Rattle.whole.proofs.Order.{to-⊑, ⊑-trans, within}
 use Rattle.expressions.specs.Entries.{entriesOf}
 use Rattle.expressions.specs.Meaning.{State, valueOf, truthIn}
+use Rattle.expressions.specs.Reading.{lookIn}
 use Rattle.expressions.specs.Right.{IsTruth}
 use Rattle.evaluate.specs.Formed.{Grounded}
-use Rattle.model.specs.Layout.{variableCount, branchSize}
+use Rattle.evaluate.specs.Settled.{flagAt, contentAt}
+use Rattle.evaluate.proofs.Rows.{filled, state-row}
+use Rattle.model.specs.Layout.{variableCount, branchSize, recordSize, recordCount}
 use Rattle.model.specs.Model.{Model, modelOf, bound, firstRecord, modelIn}
 use Rattle.model.specs.Chances.{InRange, next}
 use Rattle.model.specs.Table.{modelRows, modelOutcome}
@@ -33,7 +36,7 @@ use Rattle.model.specs.Step.{valueFits, stepRows, stepRowOf, stepOutcome, stepR
 use Rattle.model.proofs.Chances.{in-bounds, record-there, next-in-range}
 use Rattle.model.proofs.Decided.{accepted-valid}
 use Rattle.model.proofs.Limits.{limits}
-use Rattle.step.specs.Stepping.{fitsIn, assignedIn, Stepping}
+use Rattle.step.specs.Stepping.{fitsIn, assignedIn, valueIn, Assigning, Stepping}
 
 -- ---- the model's outcome, and then the step's
 module _ (m : List ℕ) {o : Outcome} (e : o ≡ modelOutcome m) where
@@ -100,6 +103,11 @@ pub record Taken (m : List ℕ) (c b f : ℕ) : Type 0 where
   pub branch : b < field 4 (body m 3) c 1
   pub first : f ≡ firstRecord (modelOf m) c
 
+-- There are at most 512 expressions.
+entries-few : {m : List ℕ} → Valid m → countOf 8 (body m 2) ≤ 512
+unfolding recordCount recordSize
+entries-few valid = valid .folder .records 2 (omega arith) .few
+
 -- What record r gives variable v.
 abbrev given : List ℕ → State → ℕ → ℕ → ℤ
 given m s r v = assignedIn (body m 2) (body m 4) (branchSize (variableCount m)) r s v
@@ -127,6 +135,7 @@ module _ {m : List ℕ} (valid : Valid m) {s : State} (h : InRange (modelOf m) s
       size-small = omega (arith, limits (valid .folder) .variables);
       record-small = omega (arith, record-small, t .first);
       few = omega (arith, h .long, limits (valid .folder) .variables);
+      entries = entries-few valid;
       grounded = grounded valid h refl;
       number = λ v w. valid .model .branches (firstRecord (modelOf m) c + b) record-in .number v (omega (arith, h .long));
       fits = λ v w. given-small v (omega (arith, h .long));
@@ -136,3 +145,21 @@ module _ {m : List ℕ} (valid : Valid m) {s : State} (h : InRange (modelOf m) s
         → row ≡ next (modelOf m) c b s ++ drop (variableCount m) result
     unfolding next
     next-is result u = rw (p, r, t .first, h .long) at u
+
+-- ---- from the row that `settle` fills
+module _ {x b : List ℕ} {size r : ℕ} {s : State} (h : Stepping x b size r s) (known₀ : List ℕ) (values₀ : List ℤ) {known : List ℕ} {values : List ℤ}
+    (e : known ≡ fill (countOf 8 x) (flagAt (entriesOf x) (lookIn 65535 s)) known₀) (f : values ≡ fill (countOf 8 x) (contentAt (entriesOf x) (lookIn 65535 s)) values₀) where
+  value-is : (v : ℕ) → v < length s → valueIn values b size r v ≡ assignedIn x b size r s v
+  value-is v l =
+      state-row (entriesOf x) s (h .grounded) known values (filled (entriesOf x) (lookIn 65535 s) (countOf 8 x) known₀ values₀ e f) .numbers _ (h .number v l)
+
+  pub assigning : Assigning values b size r (length s)
+  assigning = record {
+    size-small = h .size-small;
+    record-small = h .record-small;
+    few = h .few;
+    fits = λ v l. rw (value-is v l) (h .fits v l);
+  }
+
+  pub values-next : (result : List ℤ) {out : List ℤ} → out ≡ fill (length s) (valueIn values b size r) result → out ≡ fill (length s) (assignedIn x b size r s) result
+  values-next result q = q ∙ ap (λ (z : List ℤ). z ++ drop (length s) result) (tab-same (length s) _ _ value-is)

@@ -3,10 +3,10 @@
 use Prim.Native.Nat.{ℕ, _+_, _<_, _≤_}
 use mathlib.Core.Bool.{Bool}
 use mathlib.Core.List.{List}
-use lib.ListN.{length}
-use lib.IntN.{ℤ}
+use lib.ListN.{length, getD}
+use lib.IntN.{ℤ, pos}
 use lib.Signed.{mag}
-use Rattle.folder.specs.Contents.{field, signedField}
+use Rattle.folder.specs.Contents.{countOf, field, signedField}
 use Rattle.expressions.specs.Entries.{entriesOf}
 use Rattle.expressions.specs.Meaning.{State, valueOf, numberIn}
 use Rattle.expressions.specs.Right.{IsNumber}
@@ -21,11 +21,23 @@ fitsIn y s v = between (signedField 6 y v 0) (signedField 6 y v 1) (valueOf s v)
 abbrev pub assignedIn : List ℕ → List ℕ → ℕ → ℕ → State → ℕ → ℤ
 assignedIn x b size r s v = numberIn (entriesOf x) s (field size b r (1 + v))
 
+-- The same where the row has what each number is.
+abbrev pub valueIn : List ℤ → List ℕ → ℕ → ℕ → ℕ → ℤ
+valueIn values b size r v = getD values (field size b r (1 + v)) (pos 0)
+
+-- What the row gives each of n variables fits 16 bits.
+pub record Assigning (values : List ℤ) (b : List ℕ) (size r n : ℕ) : Type 0 where
+  pub size-small : size ≤ 65536
+  pub record-small : r ≤ 65536
+  pub few : n ≤ 16
+  pub fits : (v : ℕ) → v < n → mag (valueIn values b size r v) ≤ 30000
+
 -- Each expression of branch record r is a number that can be read in s, and its value fits 16 bits.
 pub record Stepping (x b : List ℕ) (size r : ℕ) (s : State) : Type 0 where
   pub size-small : size ≤ 65536
   pub record-small : r ≤ 65536
   pub few : length s ≤ 16
+  pub entries : countOf 8 x ≤ 512
   pub grounded : Grounded (entriesOf x) s
   pub number : (v : ℕ) → v < length s → IsNumber (entriesOf x) (field size b r (1 + v))
   pub fits : (v : ℕ) → v < length s → mag (assignedIn x b size r s v) ≤ 30000

@@ -2,8 +2,9 @@
 use folder::Outcome;
 ghost use mathlib.Core.Path.{_≡_};
 ghost use mathlib.Core.List.{_++_};
-ghost use Prim.Native.Nat.{_<_, _≤_};
+ghost use Prim.Native.Nat.{_≤_};
 ghost use lib.ListN.{length, drop};
+ghost use lib.Signed.{mag};
 ghost use Rattle.folder.specs.Tab.{fill};
 ghost use Rattle.folder.specs.Table.{outcome};
 ghost use Rattle.folder.specs.Scan.{firstBad};
@@ -12,7 +13,7 @@ ghost use Rattle.model.specs.Model.{modelOf};
 ghost use Rattle.model.specs.Chances.{InRange};
 ghost use Rattle.model.specs.Valid.{Valid};
 ghost use Rattle.model.specs.Step.{stepRows, stepRowOf, stepOutcome, stepRow};
-ghost use Rattle.step.specs.Stepping.{fitsIn, assignedIn, Stepping};
+ghost use Rattle.step.specs.Stepping.{fitsIn, assignedIn, valueIn, Assigning, Stepping};
 
 // The value of variable v in a state; past the last, 0.
 fn value_of(state: &[i16], v: usize) -> i64
@@ -61,27 +62,39 @@ fn load(state: &[i16], row: &mut [i64])
     }
 }
 
-// What record r of the branch body b gives variable v in the state s.
-fn assigned_in(x: &[u8], b: &[u8], size: usize, r: usize, s: &[i64], v: usize) -> i16
-    requires { ⌜ Stepping (now x) (now b) size r (now s) ⌝ }
-    requires { ⌜ v < length (now s) ⌝ }
-    ensures { λ z. ⌜ z ≡ assignedIn (now (x .entry)) (now (b .entry)) size r (now (s .entry)) v ⌝ }
+// What record r of the branch body b gives variable v, where the row has what each number is.
+fn assigned_in(values: &[i64], b: &[u8], size: usize, r: usize, v: usize) -> i16
+    requires { ⌜ (size ≤ 65536) × (r ≤ 65536) × (v ≤ 16) ⌝ }
+    requires { ⌜ mag (valueIn (now values) (now b) size r v) ≤ 30000 ⌝ }
+    ensures { λ z. ⌜ z ≡ valueIn (now (values .entry)) (now (b .entry)) size r v ⌝ }
 {
-    evaluate::number_in(x, s, folder::field(size, b, r, 1 + v)) as i16
+    evaluate::value_at(values, folder::field(size, b, r, 1 + v)) as i16
 }
 
-// The state that branch record r gives, at the front of the result row. All its expressions read s.
+// The n values that branch record r gives, at the front of the result row.
+fn put_values(values: &[i64], b: &[u8], size: usize, r: usize, n: usize, result: &mut [i16])
+    requires { ⌜ Assigning (now values) (now b) size r n ⌝ }
+    requires { ⌜ n ≤ length (now result) ⌝ }
+    ensures { λ _. ⌜ now (result .exit) ≡ fill n (valueIn (now (values .entry)) (now (b .entry)) size r) (now (result .entry)) ⌝ }
+{
+    let mut v = 0;
+    while v < n {
+        result[v] = assigned_in(values, b, size, r, v);
+        v += 1;
+    }
+}
+
+// The state that branch record r gives, at the front of the result row. All its expressions read s; they may share parts, so that
+// each entry is read once.
 fn put_next(x: &[u8], b: &[u8], size: usize, r: usize, s: &[i64], result: &mut [i16])
     requires { ⌜ Stepping (now x) (now b) size r (now s) ⌝ }
     requires { ⌜ length (now s) ≤ length (now result) ⌝ }
     ensures { λ _. ⌜ now (result .exit) ≡ fill (length (now (s .entry))) (assignedIn (now (x .entry)) (now (b .entry)) size r (now (s .entry))) (now (result .entry)) ⌝ }
 {
-    let n = s.len();
-    let mut v = 0;
-    while v < n {
-        result[v] = assigned_in(x, b, size, r, s, v);
-        v += 1;
-    }
+    let mut known = [0u8; 512];
+    let mut values = [0i64; 512];
+    evaluate::settle(x, 65535, s, &mut known, &mut values);
+    put_values(&values, b, size, r, s.len(), result);
 }
 
 // Rows 31 to 33 and the step, from a state in range.
