@@ -17,7 +17,7 @@ abbrev μ-loop : tie.MeasureT-loop
 assigned-in-requires : tie.Need-assigned-in-requires Inv-loop μ-loop
 assigned-in-requires c κs =
     let h = c .before .before .before .pre .0 in
-    ((h .size-small, h .record-small, omega (arith, h .few)), h .fits (c .before .loop .v) (c .loop-test .taken))
+    ((h .size-small, h .record-small, omega (arith, h .few)), h .fits _ (omega arith))
 
 loop-again : tie.Need-loop-again Inv-loop μ-loop
 loop-again c = fill-next (c .before .before .loop .inv) (c .before .loop-test .taken) (omega arith) (back16 (c .assigned-in .ok) ∙ c .assigned-in .ensures)
