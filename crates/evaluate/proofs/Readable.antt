@@ -26,7 +26,7 @@ use Rattle.expressions.specs.declared.Number.the-variants.{Known, Unknown as Op
 use Rattle.expressions.specs.declared.Truth.the-variants.{True, False, Unknown}
 use Rattle.expressions.specs.declared.Range.{Range}
 use Rattle.expressions.proofs.Interval.{In}
-use Rattle.expressions.proofs.Levels.{lower, number-deep, truth-deep}
+use Rattle.expressions.proofs.Levels.{lower, truth-deep}
 use Rattle.expressions.proofs.Small.{InN, in-range-at, small}
 use Rattle.expressions.proofs.Sound.{Says, number-sound, truth-sound, known-is, true-is, false-is}
 use Rattle.expressions.proofs.Whole.{whole-number, whole-truth}
@@ -80,10 +80,6 @@ module _ (x : Entries) (t : ℕ) (v : List ℤ) (ready : Ready x t v) where
   bounded n e z k =
       let f = ready .formed in
       small (in-known z (in-range-at x (parts-lower x _ _ f) (ready .bound) (lookIn t v) (value-in x _ _ f t v (ready .values)) n e) k) (narrow x _ _ f e)
-
-  pub number-enough : (e : ℕ) → numberAt (reading (lookIn t v)) x deepest e ≡ readNumber x (lookIn t v) e
-  unfolding readNumber
-  number-enough e = let f = ready .formed in number-deep (reading (lookIn t v)) x (parts-lower x _ _ f) deepest e (shallow x _ _ f e)
 
   pub truth-enough : (e : ℕ) → truthAt (reading (lookIn t v)) x deepest e ≡ readTruth x (lookIn t v) e
   unfolding readTruth

@@ -8,10 +8,10 @@ ghost use Rattle.folder.specs.Contents.{countOf};
 ghost use Rattle.folder.specs.Tab.{fill};
 ghost use Rattle.expressions.specs.Entries.{entriesOf};
 ghost use Rattle.expressions.specs.Levels.{numberAt, truthAt};
-ghost use Rattle.expressions.specs.Meaning.{numberIn, truthIn};
+ghost use Rattle.expressions.specs.Meaning.{truthIn};
 ghost use Rattle.expressions.specs.Operations.{arithZ, relates};
 ghost use Rattle.expressions.specs.Reading.{arithN, chooseN, compareN, notT, andT, orT, joinT, lookIn, reading, readNumber, readTruth};
-ghost use Rattle.expressions.specs.Right.{IsNumber, IsTruth};
+ghost use Rattle.expressions.specs.Right.{IsTruth};
 ghost use Rattle.evaluate.specs.Bounded.{Small, Bounded};
 ghost use Rattle.evaluate.specs.Formed.{Ready, Grounded};
 ghost use Rattle.evaluate.specs.Settled.{asNumber, flagOf, contentOf, numberFrom, truthFrom, entryReading, flagAt, contentAt, Settled};
@@ -212,15 +212,7 @@ pub fn read_truth(x: &[u8], t: usize, v: &[i64], e: usize, left: usize) -> Truth
     }
 }
 
-// How entry e reads. The depth of an expression is at most 12.
-pub fn number_at(x: &[u8], t: usize, v: &[i64], e: usize) -> Number
-    requires { ⌜ Ready (entriesOf (now x)) t (now v) ⌝ }
-    requires { ⌜ e ≤ 65536 ⌝ }
-    ensures { λ r. ⌜ r ≡ readNumber (entriesOf (now (x .entry))) (lookIn t (now (v .entry))) e ⌝ }
-{
-    read_number(x, t, v, e, 12)
-}
-
+// How entry e reads as a truth. The depth of an expression is at most 12.
 pub fn truth_at(x: &[u8], t: usize, v: &[i64], e: usize) -> Truth
     requires { ⌜ Ready (entriesOf (now x)) t (now v) ⌝ }
     requires { ⌜ e ≤ 65536 ⌝ }
@@ -229,19 +221,7 @@ pub fn truth_at(x: &[u8], t: usize, v: &[i64], e: usize) -> Truth
     read_truth(x, t, v, e, 12)
 }
 
-// What entry e is in the state s, which is the label that tracks every variable, of 16 at most.
-pub fn number_in(x: &[u8], s: &[i64], e: usize) -> i64
-    requires { ⌜ Grounded (entriesOf (now x)) (now s) ⌝ }
-    requires { ⌜ IsNumber (entriesOf (now x)) e ⌝ }
-    requires { ⌜ e ≤ 65536 ⌝ }
-    ensures { λ r. ⌜ r ≡ numberIn (entriesOf (now (x .entry))) (now (s .entry)) e ⌝ }
-{
-    match number_at(x, 65535, s, e) {
-        Number::Known(z) => z,
-        Number::Unknown => 0,
-    }
-}
-
+// Whether entry e holds in the state s, which is the label that tracks every variable, of 16 at most.
 pub fn truth_in(x: &[u8], s: &[i64], e: usize) -> bool
     requires { ⌜ Grounded (entriesOf (now x)) (now s) ⌝ }
     requires { ⌜ IsTruth (entriesOf (now x)) e ⌝ }
