@@ -24,20 +24,14 @@ use Rattle.evaluate.specs.Settled.{Settled}
 use Rattle.expressions.proofs.Bits.{no-bit}
 use Rattle.evaluate.proofs.Readable.{ready}
 use Rattle.evaluate.proofs.Rows.{state-row}
-use Rattle.model.specs.Limits.{mostExpressions}
-use Rattle.model.specs.Layout.{variableCount, recordSize, recordCount}
+use Rattle.model.specs.Layout.{variableCount}
 use Rattle.model.specs.Model.{Model, modelOf, bound}
-use Rattle.model.specs.Valid.{Valid}
 use Rattle.model.proofs.Chances.{in-bounds}
 use Rattle.graph.specs.Simulation.{Simulation, nodeSize, simulationOf}
 use Rattle.graph.specs.Labels.{tracks, concreteState}
 use Rattle.graph.specs.Rules.{A1}
 use Rattle.graph.proofs.Limits.{few-variables}
 use Rattle.expand.specs.Node.{NodeOf, StateSettled}
-
-pub few-entries : {m : List ℕ} → Valid m → modelOf m .entries .count ≤ mostExpressions
-unfolding recordCount recordSize
-few-entries valid = valid .folder .records 2 (omega arith) .few
 
 -- The loaded part of a row.
 pub loaded : {A : Type 0} (n : ℕ) (f : ℕ → A) (d : List A) {row : List A} → row ≡ tab n f ++ drop n d → take n row ≡ tab n f

@@ -27,7 +27,7 @@ use Rattle.expressions.specs.Right.{IsTruth}
 use Rattle.evaluate.specs.Formed.{Grounded}
 use Rattle.evaluate.specs.Settled.{flagAt, contentAt}
 use Rattle.evaluate.proofs.Rows.{filled, state-row}
-use Rattle.model.specs.Layout.{variableCount, branchSize, recordSize, recordCount}
+use Rattle.model.specs.Layout.{variableCount, branchSize}
 use Rattle.model.specs.Model.{Model, modelOf, bound, firstRecord, modelIn}
 use Rattle.model.specs.Chances.{InRange, next}
 use Rattle.model.specs.Table.{modelRows, modelOutcome}
@@ -103,11 +103,6 @@ pub record Taken (m : List ℕ) (c b f : ℕ) : Type 0 where
   pub branch : b < field 4 (body m 3) c 1
   pub first : f ≡ firstRecord (modelOf m) c
 
--- There are at most 512 expressions.
-entries-few : {m : List ℕ} → Valid m → countOf 8 (body m 2) ≤ 512
-unfolding recordCount recordSize
-entries-few valid = valid .folder .records 2 (omega arith) .few
-
 -- What record r gives variable v.
 abbrev given : List ℕ → State → ℕ → ℕ → ℤ
 given m s r v = assignedIn (body m 2) (body m 4) (branchSize (variableCount m)) r s v
@@ -135,7 +130,7 @@ module _ {m : List ℕ} (valid : Valid m) {s : State} (h : InRange (modelOf m) s
       size-small = omega (arith, limits (valid .folder) .variables);
       record-small = omega (arith, record-small, t .first);
       few = omega (arith, h .long, limits (valid .folder) .variables);
-      entries = entries-few valid;
+      entries = limits (valid .folder) .expressions;
       grounded = grounded valid h refl;
       number = λ v w. valid .model .branches (firstRecord (modelOf m) c + b) record-in .number v (omega (arith, h .long));
       fits = λ v w. given-small v (omega (arith, h .long));

@@ -4,8 +4,9 @@ use borrow.Author.Needs.{needs}
 use lib.ListN.{length}
 use Rattle.folder.specs.Contents.{countOf}
 use Rattle.folder.proofs.TabLaws.{length-tab}
+use Rattle.model.proofs.Limits.{limits}
 use Rattle.evaluate.proofs.Rows.{filled}
-use Rattle.expand.proofs.Ready.{few-entries, loaded, settled-as, ready-as, label-loaded, label-ready}
+use Rattle.expand.proofs.Ready.{loaded, settled-as, ready-as, label-loaded, label-ready}
 use Rattle.expand.proofs.settle_label.Statement.{statement}
 use Rattle.expand.proofs.settle_label.Tie as tie
 
@@ -19,7 +20,7 @@ settle-requires c κs =
     let s = x .before .before .before .before .before .before in
     let v = x .before .before .variable-count .ensures .0 in
     let e = ap (countOf 8) (x .body .ensures) in
-    let k = few-entries (s .pre .0 .model) in (
+    let k = limits (s .pre .0 .model .folder) .expressions in (
       ready-as (x .body .ensures) (x .before .node-field .ensures .0) (label-loaded (s .pre .0) _ v (l .before .before .body2 .ensures) (l .load-row .ensures)) (label-ready (s .pre .0) (s .pre .1 .0)),
       (omega arith, (omega arith, omega arith)),
     )

@@ -4,8 +4,9 @@ use borrow.Author.Needs.{needs}
 use lib.ListN.{length}
 use Rattle.folder.specs.Contents.{countOf}
 use Rattle.folder.proofs.TabLaws.{length-tab}
+use Rattle.model.proofs.Limits.{limits}
 use Rattle.evaluate.proofs.Rows.{filled}
-use Rattle.expand.proofs.Ready.{few-entries, loaded, settled-as, ready-as, state-loaded, state-ready, state-settled}
+use Rattle.expand.proofs.Ready.{loaded, settled-as, ready-as, state-loaded, state-ready, state-settled}
 use Rattle.expand.proofs.settle_state.Statement.{statement}
 use Rattle.expand.proofs.settle_state.Tie as tie
 
@@ -18,7 +19,7 @@ settle-requires c κs =
     let x = l .before .before .before in
     let s = x .before .before .before .before .before in
     let e = ap (countOf 8) (x .body .ensures) in
-    let k = few-entries (s .pre .0 .model) in (
+    let k = limits (s .pre .0 .model .folder) .expressions in (
       ready-as (x .body .ensures) refl (state-loaded (s .pre .0) _ (x .before .variable-count .ensures .0) (l .before .before .body2 .ensures) (l .load-row .ensures)) (state-ready (s .pre .0)),
       (omega arith, (omega arith, omega arith)),
     )
