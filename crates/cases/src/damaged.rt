@@ -1,5 +1,6 @@
-// Runs the library on folders that break rows 2 to 11 and 13 to 28 of document 01's table, each by changes to the pedal
-// example's. Rows 1 and 12 are broken in `limits`, rows 29 to 33 in `cases`.
+// Folders that break rows 2 to 11 and 13 to 28 of document 01's table, each by changes to the pedal example's. Rows 1 and
+// 12 are broken by lengths, in `varied`, rows 29 to 33 by the steps of the example.
+use tally::close_group;
 use trials::answers::Kind;
 use trials::table::table;
 
@@ -79,16 +80,20 @@ fn figure_rows(t: &mut [usize; 40], m: &mut [u8], g: &mut [u8], kind: Kind) {
     table(t, m, g, kind, text);
 }
 
-fn main() {
-    let mut t = [0; 40];
-    let mut m = [0; 192];
-    let mut g = [0; 192];
-    model_parts(&mut t, &mut m, &mut g);
-    model_commands(&mut t, &mut m, &mut g);
-    graph_parts(&mut t, &mut m, &mut g);
-    graph_rules(&mut t, &mut m, &mut g);
-    figure_rows(&mut t, &mut m, &mut g, Kind::FigureTold);
-    figure_rows(&mut t, &mut m, &mut g, Kind::Figure);
-    tally::close_group(&mut t, b"rows broken one by one");
-    tally::say_table(&t);
+fn models(t: &mut [usize; 40], m: &mut [u8], g: &mut [u8]) {
+    model_parts(t, m, g);
+    model_commands(t, m, g);
+}
+
+fn graphs(t: &mut [usize; 40], m: &mut [u8], g: &mut [u8]) {
+    graph_parts(t, m, g);
+    graph_rules(t, m, g);
+    figure_rows(t, m, g, Kind::FigureTold);
+    figure_rows(t, m, g, Kind::Figure);
+}
+
+pub fn all(t: &mut [usize; 40], m: &mut [u8], g: &mut [u8]) {
+    models(t, m, g);
+    graphs(t, m, g);
+    close_group(t, b"rows broken one by one");
 }

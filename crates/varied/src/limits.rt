@@ -1,10 +1,11 @@
-// Runs the library on folders on both sides of each limit.
+// Folders on both sides of each limit.
 use samples::build::contents;
 use samples::build::fields;
 use samples::build::head;
 use samples::sized::hostile_model;
 use samples::sized::sized_graph;
 use solver::ZERO;
+use tally::close_group;
 use tally::hold;
 use tally::judge;
 use tally::outcome_of;
@@ -79,24 +80,11 @@ fn full(t: &mut [usize; 40], g: &mut [u8]) {
     hold(t, b"graph of bytes", k, k == 1048576);
 }
 
-fn all(t: &mut [usize; 40], m: &mut [u8], g: &mut [u8]) {
+pub fn all(t: &mut [usize; 40], m: &mut [u8], g: &mut [u8]) {
     lengths(t, m, g);
     models(t, m, g);
     graphs(t, m, g);
     hostile(t, m);
     full(t, g);
-}
-
-// Room for the longest folders, and one byte more.
-fn in_room(t: &mut [usize; 40], m: &mut [u8; 40001], g: &mut [u8; 1048577]) {
-    all(t, m, g);
-}
-
-fn main() {
-    let mut t = [0; 40];
-    let mut m = [0; 40001];
-    let mut g = [0; 1048577];
-    in_room(&mut t, &mut m, &mut g);
-    tally::close_group(&mut t, b"limits, on both sides");
-    tally::say_table(&t);
+    close_group(t, b"limits, on both sides");
 }

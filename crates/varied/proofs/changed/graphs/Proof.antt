@@ -1,7 +1,7 @@
 use Prim.Native.Nat.{_≤_, _-_}
 use borrow.Author.Needs.{needs}
-use Rattle.varied.proofs.graphs.Statement.{statement}
-use Rattle.varied.proofs.graphs.Tie as tie
+use Rattle.varied.proofs.changed.graphs.Statement.{statement}
+use Rattle.varied.proofs.changed.graphs.Tie as tie
 
 abbrev Inv-loop : tie.InvT-loop
 Inv-loop t₀ i₀ t i = i ≤ 608
