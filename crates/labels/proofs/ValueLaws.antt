@@ -20,9 +20,9 @@ use Rattle.graph.specs.Limits.{mostBytes, units}
 use Rattle.graph.specs.Simulation.{Simulation, edgeAt, nodeSize, nodeCount, simulationOf, graph}
 use Rattle.graph.specs.Rules.{valueRule}
 use Rattle.graph.specs.Simulation.{edgeAfter}
-use Rattle.rounds.specs.Edges.{sumAt, after, EdgesReady, sumOf}
+use Rattle.sums.specs.Edges.{sumAt, after, EdgesReady, sumOf}
 use Rattle.folder.specs.Tab.{fill}
-use Rattle.rounds.proofs.ModelLaws.{after-is, edges-ready, sum-is}
+use Rattle.sums.proofs.ModelLaws.{after-is, edges-ready, sum-is}
 use Rattle.labels.specs.Values.{sumFits, ValueReady}
 use Rattle.labels.proofs.Tests.{all-same}
 use Rattle.labels.proofs.RuleLaws.{Parts}

@@ -11,8 +11,8 @@ use Rattle.model.specs.Model.{modelOf}
 use Rattle.model.specs.Valid as Models
 use Rattle.graph.specs.Simulation.{edgesStart, nodeField, nodeCount, simulationOf}
 use Rattle.graph.specs.Valid.{FolderRight, EdgeRight}
-use Rattle.rounds.specs.Edges.{after, sumOf}
-use Rattle.rounds.specs.Rounds.{Tables}
+use Rattle.sums.specs.Edges.{after, sumOf}
+use Rattle.sums.specs.Tables.{Tables}
 
 -- The weighted sum of values of the edge that is e edges after the one at `at` is at most `limit`.
 unfoldable pub sumFits : List ℕ → List ℕ → List ℕ → List ℕ → List ℕ → ℕ → ℕ → ℕ → Bool

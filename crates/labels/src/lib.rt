@@ -17,7 +17,7 @@ ghost use Rattle.model.specs.Model.{modelOf};
 ghost use Rattle.graph.specs.Limits.{mostBytes, mostNodes};
 ghost use Rattle.graph.specs.Simulation.{nodeSize, nodeCount, simulationOf};
 ghost use Rattle.graph.specs.Rules.{A1, C3, C1, C2, valueRule};
-ghost use Rattle.rounds.specs.Edges.{EdgesReady};
+ghost use Rattle.sums.specs.Edges.{EdgesReady};
 ghost use Rattle.folder.specs.Tab.{fill};
 ghost use Rattle.labels.specs.Agree.{agreesAt};
 ghost use Rattle.labels.specs.Values.{sumFits, ValueReady};
@@ -169,7 +169,7 @@ fn first_above(
     while e < count {
         let c = folder::u16_at(eb, k);
         let branches = folder::field(4, cs, c, 1);
-        if rounds::edge_sum(weights, values, eb, firsts[c], branches, k) <= limit {
+        if sums::edge_sum(weights, values, eb, firsts[c], branches, k) <= limit {
             k += 2 + 2 * branches;
             e += 1;
         } else {

@@ -21,7 +21,7 @@ use Rattle.graph.specs.Valid.{RowsRight}
 use Rattle.graph.specs.Table.{nodeRules}
 use Rattle.graph.specs.Walks.{startsAt}
 use Rattle.graph.proofs.Limits.{few-variables}
-use Rattle.rounds.specs.Rounds.{Tables}
+use Rattle.sums.specs.Tables.{Tables}
 use Rattle.folder.specs.Tab.{fill}
 use Rattle.folder.proofs.FillLaws.{getD-filled, getD-kept, length-fill}
 use Rattle.labels.specs.Values.{ValueReady}

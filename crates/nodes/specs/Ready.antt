@@ -10,7 +10,7 @@ use Rattle.model.specs.Valid.{Valid}
 use Rattle.graph.specs.Simulation.{Simulation, nodeCount, simulationOf}
 use Rattle.graph.specs.Rules.{A2, B1, B2, C3, C1, C2, valueRule}
 use Rattle.graph.specs.Valid.{RowsRight}
-use Rattle.rounds.specs.Rounds.{Tables}
+use Rattle.sums.specs.Tables.{Tables}
 
 pub record RulesReady (m g values weights firsts : List ℕ) : Type 0 where
   pub model : Valid m

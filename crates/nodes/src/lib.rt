@@ -170,12 +170,12 @@ fn check_nodes(m: &[u8], g: &[u8]) -> Outcome
     let mut weights = [0usize; 1024];
     let mut firsts = [0usize; 64];
     labels::fill_values(m, g, &mut values);
-    rounds::fill_weights(
+    sums::fill_weights(
         2 + 2 * graph::variable_count(m),
         folder::body(m, 4),
         &mut weights,
     );
-    rounds::fill_firsts(folder::body(m, 3), &mut firsts);
+    sums::fill_firsts(folder::body(m, 3), &mut firsts);
     all_nodes(m, g, &values, &weights, &firsts)
 }
 

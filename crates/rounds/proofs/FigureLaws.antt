@@ -22,9 +22,11 @@ use Rattle.graph.specs.Limits.{units}
 use Rattle.graph.specs.Simulation.{Simulation, graph, kindOf, simulationOf}
 use Rattle.graph.specs.Figures.{figures}
 use Rattle.graph.specs.Valid.{Valid}
-use Rattle.rounds.specs.Rounds.{Round, figureBy, source, ownStart, ownNext, nextRound}
-use Rattle.rounds.proofs.RoundLaws.{up-small, own-start, own-next, shared-source}
-use Rattle.rounds.proofs.ModelLaws.{greatest-eq, best-small}
+use Rattle.sums.specs.Tables.{Round, figureBy}
+use Rattle.rounds.specs.Rounds.{source, ownStart, ownNext, nextRound}
+use Rattle.rounds.proofs.RoundLaws.{own-start, own-next, shared-source}
+use Rattle.sums.proofs.EdgeLaws.{up-small}
+use Rattle.sums.proofs.ModelLaws.{greatest-eq, best-small}
 use Rattle.rounds.proofs.NodeLaws.{some-total}
 use Rattle.rounds.proofs.CoverLaws.{source-in}
 

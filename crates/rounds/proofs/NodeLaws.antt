@@ -12,9 +12,10 @@ use Rattle.model.specs.Model.{Model, modelOf}
 use Rattle.graph.specs.Limits.{units}
 use Rattle.graph.specs.Simulation.{Simulation, edgesStart, nodeSize, nodeField, simulationOf}
 use Rattle.graph.specs.Valid.{Valid}
-use Rattle.rounds.specs.Edges.{after, EdgesReady, bestOf}
-use Rattle.rounds.specs.Rounds.{Tables, Round, figureBy, ownNext, nodesOf, Shaped}
-use Rattle.rounds.proofs.ModelLaws.{edges-ready, best-is, next-starts, best-small}
+use Rattle.sums.specs.Edges.{after, EdgesReady, bestOf}
+use Rattle.sums.specs.Tables.{Tables, Round, figureBy}
+use Rattle.rounds.specs.Rounds.{ownNext, nodesOf, Shaped}
+use Rattle.sums.proofs.ModelLaws.{edges-ready, best-is, next-starts, best-small}
 use Rattle.rounds.proofs.RoundLaws.{own-next}
 
 -- What the code reads of the folders once: the size of a node, D, and the bodies of commands, nodes and edges.

@@ -1,7 +1,6 @@
--- Laws of a round: rounding up, figures by kind.
+-- Laws of a round: figures by kind.
 -- Assumes nothing.
 use Prim.Native.Nat.{ℕ, _+_, _-_, _*_, _/_, _≤_, _<_}
-use native.Mathlib.Nat.{div-lt-iff-lt-mul}
 use native.Mathlib.Decide.{ℕ-discrete}
 use borrow.Author.Tests.{ne-eqb}
 use native.Mathlib.Omega.{arith}
@@ -18,13 +17,9 @@ use Rattle.model.specs.Model.{Model}
 use Rattle.model.specs.Chances.{mdp}
 use Rattle.graph.specs.Limits.{units}
 use Rattle.graph.specs.Simulation.{Simulation, graph, kindOf}
-use Rattle.rounds.specs.Rounds.{figureBy, source, ownStart, ownNext}
+use Rattle.sums.specs.Tables.{figureBy}
+use Rattle.rounds.specs.Rounds.{source, ownStart, ownNext}
 
--- An average of at most s rounds up to at most s.
-pub up-small : (d x s : ℕ) → 0 < d → x ≤ d * s → (x + (d - 1)) / d < s + 1
-up-small d x s p h = div-lt-iff-lt-mul {k = d} {x = x + (d - 1)} {y = s + 1} p .1 (omega arith)
-
--- ---- figures by kind
 module _ (M : Model) (G : Simulation) where
   start-by : (a b c : Bool)
       → start (mdp M) (graph G) units units (up (mdp M) (graph G) units) (pick a expanded (pick b covered (pick c target waiting))) ≡ pick a 0 (pick b 0 units)

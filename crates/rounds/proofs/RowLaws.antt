@@ -17,7 +17,8 @@ use Rattle.model.specs.Model.{modelOf}
 use Rattle.graph.specs.Simulation.{simulationOf}
 use Rattle.graph.specs.Figures.{figures}
 use Rattle.graph.specs.Valid.{Valid}
-use Rattle.rounds.specs.Rounds.{Round, nodesOf, startRow, nextRow, firstAt, secondAt, turnFirst, turnSecond, heldIn, sameFirst}
+use Rattle.sums.specs.Tables.{Round}
+use Rattle.rounds.specs.Rounds.{nodesOf, startRow, nextRow, firstAt, secondAt, turnFirst, turnSecond, heldIn, sameFirst}
 use Rattle.folder.proofs.FillLaws.{drop-filled}
 use Rattle.rounds.proofs.FigureLaws.{figures-long, begins, round-held, figures-next, figures-same, settled}
 

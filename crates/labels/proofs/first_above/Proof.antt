@@ -4,8 +4,8 @@ use native.Mathlib.Omega.{arith}
 use borrow.Author.Tests.{le-leb, lt-leb}
 use borrow.Author.Needs.{needs}
 use Rattle.folder.proofs.ScanLaws.{Scanned, scan-start, scan-next, scan-found, scan-over}
-use Rattle.rounds.specs.Edges.{after}
-use Rattle.rounds.proofs.EdgeLaws.{ready-here, fits-here, edge-next}
+use Rattle.sums.specs.Edges.{after}
+use Rattle.sums.proofs.EdgeLaws.{ready-here, fits-here, edge-next}
 use Rattle.labels.specs.Values.{sumFits}
 use Rattle.labels.proofs.ValueLaws.{first-spot, edge-test}
 use Rattle.labels.proofs.first_above.Statement.{statement}

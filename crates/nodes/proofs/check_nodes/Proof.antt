@@ -4,7 +4,7 @@ use denote.Ref.{now}
 use borrow.Author.Needs.{needs}
 use Rattle.model.specs.Layout.{branchSize}
 use Rattle.model.proofs.Limits.{limits}
-use Rattle.rounds.proofs.TableLaws.{record-count, command-count, tables-of}
+use Rattle.sums.proofs.TableLaws.{record-count, command-count, tables-of}
 use Rattle.nodes.proofs.NodeLaws.{ready-of}
 use Rattle.nodes.proofs.check_nodes.Statement.{statement}
 use Rattle.nodes.proofs.check_nodes.Tie as tie

@@ -4,7 +4,7 @@ use denote.Ref.{now}
 use Rattle.model.specs.Layout.{branchSize}
 use Rattle.rounds.specs.Rounds.{firstAt, secondAt}
 use Rattle.rounds.proofs.NodeLaws.{few-variables, few-commands, few-records}
-use Rattle.rounds.proofs.TableLaws.{record-count, command-count, tables-of}
+use Rattle.sums.proofs.TableLaws.{record-count, command-count, tables-of}
 use borrow.Author.Needs.{needs}
 use Rattle.rounds.proofs.run_rounds.Statement.{statement}
 use Rattle.rounds.proofs.run_rounds.Tie as tie

@@ -1,12 +1,12 @@
 use Prim.Native.Nat.{_≤_, _<_, _-_}
 use mathlib.Core.Path.{_≡_, _∙_}
 use Rattle.graph.specs.Simulation.{edgeAfter}
-use Rattle.rounds.specs.Edges.{after, bestOf}
-use Rattle.rounds.proofs.EdgeLaws.{ready-here, fits-here, edge-next, edge-more}
+use Rattle.sums.specs.Edges.{after, bestOf}
+use Rattle.sums.proofs.EdgeLaws.{ready-here, fits-here, edge-next, edge-more}
 use native.Mathlib.Omega.{arith}
 use borrow.Author.Needs.{needs}
-use Rattle.rounds.proofs.best_of.Statement.{statement}
-use Rattle.rounds.proofs.best_of.Tie as tie
+use Rattle.sums.proofs.best_of.Statement.{statement}
+use Rattle.sums.proofs.best_of.Tie as tie
 
 abbrev Inv-loop : tie.InvT-loop
 Inv-loop cs eb weights firsts row at count best₀ k₀ e₀ best k e = (e ≤ count) × (k ≡ after cs eb at e) × (best ≡ bestOf cs eb weights firsts row at e) × (best < 4503599627370496)

@@ -1,6 +1,8 @@
--- Laws of an edge's weighted sum, and of the walk over a node's edges.
+-- Laws of an edge's weighted sum, of the walk over a node's edges, and of rounding up.
 -- Assumes nothing.
-use Prim.Native.Nat.{ℕ, _+_, _*_, _<_, max}
+use Prim.Native.Nat.{ℕ, _+_, _-_, _*_, _/_, _≤_, _<_, max}
+use native.Mathlib.Nat.{div-lt-iff-lt-mul}
+use native.Mathlib.Omega.{arith}
 use mathlib.Core.Path.{_≡_, refl, _∙_}
 use mathlib.Core.List.{List}
 use native.Mathlib.Numerals.{add-one}
@@ -9,7 +11,7 @@ use Rattle.mdp.specs.Sums.{sum, greatest}
 use Rattle.folder.specs.Fields.{u16}
 use Rattle.folder.specs.Contents.{field}
 use Rattle.graph.specs.Simulation.{edgeAfter, edgeSize}
-use Rattle.rounds.specs.Edges.{sumAt, EdgeFits, after, EdgeReady, EdgesReady, sumOf, bestOf}
+use Rattle.sums.specs.Edges.{sumAt, EdgeFits, after, EdgeReady, EdgesReady, sumOf, bestOf}
 
 -- One more part of a sum, and one more value.
 pub sum-next : (n : ℕ) (f : ℕ → ℕ) {a t : ℕ} → a ≡ sum n (λ i _. f i) → t ≡ f n → a + t ≡ sum (n + 1) (λ i _. f i)
@@ -40,3 +42,7 @@ module _ {cs eb weights firsts : List ℕ} {nodes at count : ℕ} (R : EdgesRead
         → max b t ≡ bestOf cs eb weights firsts row at (e + 1)
     unfolding bestOf sumOf
     edge-more row u v = greatest-next e (λ i. sumOf cs eb weights firsts row (after cs eb at i)) u (v ∙ rw (s, q, p) refl)
+
+-- An average of at most s rounds up to at most s.
+pub up-small : (d x s : ℕ) → 0 < d → x ≤ d * s → (x + (d - 1)) / d < s + 1
+up-small d x s p h = div-lt-iff-lt-mul {k = d} {x = x + (d - 1)} {y = s + 1} p .1 (omega arith)

@@ -1,7 +1,7 @@
 use mathlib.Core.Path.{refl}
 use borrow.Author.Needs.{needs}
-use Rattle.rounds.proofs.up.Statement.{statement}
-use Rattle.rounds.proofs.up.Tie as tie
+use Rattle.sums.proofs.up.Statement.{statement}
+use Rattle.sums.proofs.up.Tie as tie
 
 returns : tie.Need-returns
 returns c = refl

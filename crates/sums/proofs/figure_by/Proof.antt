@@ -3,10 +3,10 @@ use mathlib.Core.Path.{refl}
 use borrow.Author.Needs.{needs}
 use borrow.Author.Tests.{eq-eqb, ne-eqb}
 use Rattle.graph.specs.Limits.{units}
-use Rattle.rounds.specs.Rounds.{figureBy}
-use Rattle.rounds.proofs.RoundLaws.{up-small}
-use Rattle.rounds.proofs.figure_by.Statement.{statement}
-use Rattle.rounds.proofs.figure_by.Tie as tie
+use Rattle.sums.specs.Tables.{figureBy}
+use Rattle.sums.proofs.EdgeLaws.{up-small}
+use Rattle.sums.proofs.figure_by.Statement.{statement}
+use Rattle.sums.proofs.figure_by.Tie as tie
 
 cast-result : tie.Need-cast-result
 cast-result c =

@@ -1,8 +1,8 @@
 use native.Mathlib.Nat.{mul-le-mul}
 use native.Mathlib.Omega.{arith}
 use Prim.Native.Nat.{_≤_, _*_}
-use Rattle.rounds.proofs.times.Statement.{statement}
-use Rattle.rounds.proofs.times.Tie as tie
+use Rattle.sums.proofs.times.Statement.{statement}
+use Rattle.sums.proofs.times.Tie as tie
 
 small : (c : tie.Start) → c .args .weight * c .args .x ≤ 281470681677825
 small c = mul-le-mul {n₁ = c .args .weight} {m₁ = c .args .x} {n₂ = 65535} {m₂ = 4294967295} (omega arith) (omega arith)

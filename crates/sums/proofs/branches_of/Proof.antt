@@ -1,7 +1,7 @@
 use borrow.Author.Needs.{needs}
 use Rattle.folder.specs.Contents.{field}
-use Rattle.rounds.proofs.branches_of.Statement.{statement}
-use Rattle.rounds.proofs.branches_of.Tie as tie
+use Rattle.sums.proofs.branches_of.Statement.{statement}
+use Rattle.sums.proofs.branches_of.Tie as tie
 
 returns : tie.Need-returns
 unfolding field

@@ -1,7 +1,7 @@
 use borrow.Author.Needs.{needs}
 use Rattle.folder.specs.Fields.{u16}
-use Rattle.rounds.proofs.u16_in.Statement.{statement}
-use Rattle.rounds.proofs.u16_in.Tie as tie
+use Rattle.sums.proofs.u16_in.Statement.{statement}
+use Rattle.sums.proofs.u16_in.Tie as tie
 
 returns : tie.Need-returns
 unfolding u16

@@ -2,10 +2,10 @@ use Prim.Native.Nat.{_≤_, _*_, _-_}
 use mathlib.Core.Path.{_≡_}
 use native.Mathlib.Omega.{arith}
 use borrow.Author.Needs.{needs}
-use Rattle.rounds.proofs.EdgeLaws.{branch-more}
-use Rattle.rounds.specs.Edges.{sumAt}
-use Rattle.rounds.proofs.edge_sum.Statement.{statement}
-use Rattle.rounds.proofs.edge_sum.Tie as tie
+use Rattle.sums.proofs.EdgeLaws.{branch-more}
+use Rattle.sums.specs.Edges.{sumAt}
+use Rattle.sums.proofs.edge_sum.Statement.{statement}
+use Rattle.sums.proofs.edge_sum.Tie as tie
 
 abbrev Inv-loop : tie.InvT-loop
 Inv-loop weights row eb first count at acc₀ b₀ acc b = (b ≤ count) × (acc ≡ sumAt weights row eb first b at) × (acc ≤ b * 281470681677825)

@@ -1,16 +1,16 @@
 use Rattle.folder.specs.Contents.{countOf}
-use Rattle.rounds.proofs.TableLaws.{first-more}
+use Rattle.sums.proofs.TableLaws.{first-more}
 use Prim.Native.Nat.{_≤_, _-_, _*_}
 use mathlib.Core.Path.{_≡_, _∙_, refl}
 use denote.Ref.{now}
 use lib.ListN.{length, length-set}
-use Rattle.rounds.specs.Rounds.{firstIn}
+use Rattle.sums.specs.Tables.{firstIn}
 use Rattle.folder.specs.Tab.{fill}
 use Rattle.folder.proofs.FillLaws.{fill-none, fill-more}
 use native.Mathlib.Omega.{arith}
 use borrow.Author.Needs.{needs}
-use Rattle.rounds.proofs.fill_firsts.Statement.{statement}
-use Rattle.rounds.proofs.fill_firsts.Tie as tie
+use Rattle.sums.proofs.fill_firsts.Statement.{statement}
+use Rattle.sums.proofs.fill_firsts.Tie as tie
 
 abbrev Inv-loop : tie.InvT-loop
 Inv-loop cs firsts₀ commands next₀ c₀ firsts next c = (c ≤ commands) × (firsts ≡ fill c (firstIn cs) firsts₀) × (length firsts ≡ length firsts₀) × (next ≡ firstIn cs c) × (next ≤ c * 65536)

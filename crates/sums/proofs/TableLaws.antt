@@ -9,8 +9,8 @@ use lib.ListN.{length}
 use Rattle.folder.specs.Contents.{body, field, countOf}
 use Rattle.model.specs.Layout.{variableCount, branchSize}
 use Rattle.model.specs.Model.{modelOf}
-use Rattle.rounds.specs.Rounds.{Tables, weightIn, firstIn, Light}
-use Rattle.rounds.proofs.EdgeLaws.{sum-next}
+use Rattle.sums.specs.Tables.{Tables, weightIn, firstIn, Light}
+use Rattle.sums.proofs.EdgeLaws.{sum-next}
 use Rattle.folder.specs.Tab.{fill}
 use Rattle.folder.proofs.FillLaws.{getD-filled, length-fill}
 

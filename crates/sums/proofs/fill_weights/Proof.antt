@@ -1,16 +1,16 @@
 use Rattle.folder.specs.Contents.{countOf}
-use Rattle.rounds.proofs.TableLaws.{light-none, light-more}
+use Rattle.sums.proofs.TableLaws.{light-none, light-more}
 use Prim.Native.Nat.{_≤_, _-_}
 use mathlib.Core.Path.{_≡_, _∙_, refl}
 use denote.Ref.{now}
 use lib.ListN.{length, length-set}
-use Rattle.rounds.specs.Rounds.{weightIn, Light}
+use Rattle.sums.specs.Tables.{weightIn, Light}
 use Rattle.folder.specs.Tab.{fill}
 use Rattle.folder.proofs.FillLaws.{fill-none, fill-more}
 use native.Mathlib.Omega.{arith}
 use borrow.Author.Needs.{needs}
-use Rattle.rounds.proofs.fill_weights.Statement.{statement}
-use Rattle.rounds.proofs.fill_weights.Tie as tie
+use Rattle.sums.proofs.fill_weights.Statement.{statement}
+use Rattle.sums.proofs.fill_weights.Tie as tie
 
 abbrev Inv-loop : tie.InvT-loop
 Inv-loop size bs weights₀ records r₀ weights r = (r ≤ records) × (weights ≡ fill r (weightIn size bs) weights₀) × (length weights ≡ length weights₀) × Light r (weightIn size bs)

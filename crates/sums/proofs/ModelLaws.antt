@@ -20,8 +20,8 @@ use Rattle.model.proofs.Chances.{record-there}
 use Rattle.graph.specs.Limits.{units}
 use Rattle.graph.specs.Simulation.{Simulation, edgeSize, edgeAfter, edgesStart, edgeWhole, edgeAt, nodeField, simulationOf, graph}
 use Rattle.graph.specs.Valid.{EdgeRight}
-use Rattle.rounds.specs.Edges.{sumAt, after, EdgeReady, EdgesReady, sumOf, bestOf}
-use Rattle.rounds.specs.Rounds.{Tables, Round}
+use Rattle.sums.specs.Edges.{sumAt, after, EdgeReady, EdgesReady, sumOf, bestOf}
+use Rattle.sums.specs.Tables.{Tables, Round}
 
 -- The walk is the graph's.
 pub after-is : (m eb : List ℕ) (k j : ℕ) → after (body m 3) eb k j ≡ edgeAfter (modelOf m) eb k j

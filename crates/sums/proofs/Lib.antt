@@ -1,0 +1,3 @@
+pub mod EdgeLaws
+pub mod ModelLaws
+pub mod TableLaws
