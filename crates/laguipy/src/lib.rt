@@ -17,7 +17,7 @@ ghost use Rattle.graph.specs.Figures.{figureOutcome, firstRow, secondRow, figur
 pub fn model_check(model: &[u8]) -> Outcome
     ensures { λ r. ⌜ r ≡ modelOutcome (now (model .entry)) ⌝ }
 {
-    model::check_model(model)
+    content::check_model(model)
 }
 
 // The view: record i of body e, as a part of the folder. Where the folder breaks rows 1 to 3, or has no such body or
@@ -33,7 +33,7 @@ pub fn record_part(model: &[u8], e: usize, i: usize) -> &[u8]
 fn graph_outcome(m: &[u8], g: &[u8]) -> Outcome
     ensures { λ r. ⌜ r ≡ graphOutcome (now (m .entry)) (now (g .entry)) ⌝ }
 {
-    let o = model::check_model(m);
+    let o = content::check_model(m);
     match o {
         Outcome::Refused(f) => Outcome::Refused(f),
         Outcome::Accepted => nodes::check_graph(m, g),

@@ -3,7 +3,4 @@ pub mod Chances
 pub mod Limits
 pub mod SumLoop
 pub mod LayoutLaws
-mod BodyLaws
-mod AssignLaws
-mod CheckLaws
 pub mod ViewLaws

@@ -8,4 +8,3 @@ pub mod Step
 pub mod View
 pub mod Pedal
 pub mod Valid
-pub mod Bodies

@@ -1,0 +1,3 @@
+mod BodyLaws
+mod AssignLaws
+mod CheckLaws
