@@ -1,9 +1,9 @@
 // Folders from text. All writing is total: past the buffer's end nothing happens.
-use solver::add;
-use solver::byte;
-use solver::field;
-use solver::mul;
-use solver::sub;
+use clamped::add;
+use clamped::byte;
+use clamped::field;
+use clamped::mul;
+use clamped::sub;
 
 fn low_byte(v: usize) -> u8 {
     (v % 256) as u8

@@ -4,9 +4,9 @@ use crate::build::contents;
 use crate::build::fields;
 use crate::build::put16;
 use crate::build::repeated;
-use solver::add;
-use solver::mul;
-use solver::sub;
+use clamped::add;
+use clamped::mul;
+use clamped::sub;
 
 // D, and entry 1 for the target.
 fn sized_terms(out: &mut [u8], d: usize) {

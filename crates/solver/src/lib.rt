@@ -2,6 +2,12 @@
 // folders' bytes by itself, works expressions out by plain recursion and finds best chances by going through the
 // states. It believes that its model passed the check; on any bytes it is safe and it ends, and that is all its
 // contracts say. A whole number x is kept as ZERO + x, so that no number here is signed.
+use clamped::add;
+use clamped::field;
+use clamped::long;
+use clamped::mul;
+use clamped::sub;
+
 pub const ZERO: usize = 1099511627776;
 
 const CERTAIN: usize = 1000000000;
@@ -23,52 +29,12 @@ pub struct Verdict {
     pub place: usize,
 }
 
-fn wide(x: u8) -> usize {
-    x as usize
-}
-
 fn wide_units(x: u32) -> usize {
     x as usize
 }
 
-// Sums, products and differences stop at the ends of 64 bits.
-pub fn add(a: usize, b: usize) -> usize {
-    if a <= usize::MAX - b {
-        a + b
-    } else {
-        usize::MAX
-    }
-}
-
-pub fn sub(a: usize, b: usize) -> usize {
-    if b <= a { a - b } else { 0 }
-}
-
-pub fn mul(a: usize, b: usize) -> usize {
-    if a == 0 {
-        0
-    } else if b <= usize::MAX / a {
-        a * b
-    } else {
-        usize::MAX
-    }
-}
-
 fn over(a: usize, b: usize) -> usize {
     if b == 0 { 0 } else { a / b }
-}
-
-// Past the end a byte is 0.
-pub fn byte(s: &[u8], k: usize) -> usize {
-    if k < s.len() { wide(s[k]) } else { 0 }
-}
-
-pub fn field(s: &[u8], k: usize) -> usize {
-    add(byte(s, k), mul(256, byte(s, add(k, 1))))
-}
-
-pub fn long(s: &[u8], k: usize) -> usize {
-    add(field(s, k), mul(65536, field(s, add(k, 2))))
 }
 
 fn value_of(s: &[usize; 16], i: usize) -> usize {

@@ -2,9 +2,9 @@
 // of the group that is being run, and of all groups the wrong ones, the steps compared with the solver's, the bounds
 // tried and those whose numbers are past 64 bits; last the varied folder that is being tried, or 0. What is wrong is
 // named as it is found. Safe and ending on any arguments; its contracts say no more.
+use clamped::add;
 use folder::Outcome;
 use graph::GraphAnswer;
-use solver::add;
 
 pub const CASES: usize = 34;
 

@@ -3,6 +3,9 @@
 use crate::figured::units;
 use crate::figured::units_mut;
 use crate::figured::untouched;
+use clamped::field;
+use clamped::long;
+use clamped::sub;
 use folder::Outcome;
 use samples::build::change;
 use samples::build::clear;
@@ -13,9 +16,6 @@ use samples::build::put16;
 use samples::sized::deep_model;
 use samples::sized::sized_graph;
 use samples::sized::sized_model;
-use solver::field;
-use solver::long;
-use solver::sub;
 use tally::number_of;
 use tally::outcome_of;
 

@@ -1,7 +1,7 @@
 // Rows of figures.
+use clamped::long;
+use clamped::mul;
 use samples::build::fields;
-use solver::long;
-use solver::mul;
 use tally::hold;
 
 fn wide(x: u32) -> usize {

@@ -2,13 +2,13 @@
 // describe is due to answer, by its number in document 01's table (0 for acceptance) and its place.
 use crate::answers::Kind;
 use crate::answers::answer;
+use clamped::add;
+use clamped::field;
+use clamped::mul;
+use clamped::sub;
 use samples::build::between;
 use samples::build::fields;
 use samples::build::find;
-use solver::add;
-use solver::field;
-use solver::mul;
-use solver::sub;
 use tally::judge;
 
 // The number and the place that end a line of n fields.

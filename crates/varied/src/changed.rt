@@ -1,15 +1,15 @@
 // Folders varied from the pedal example by a fixed rule. Each accepted model's steps and each accepted graph's bounds are
 // compared with the solver's; of refusals, that a model and its graph agree.
+use clamped::add;
+use clamped::byte;
+use clamped::mul;
+use clamped::sub;
 use samples::build::head;
 use samples::build::pedal_graph;
 use samples::build::pedal_model;
 use samples::build::put16;
 use samples::build::put32;
 use samples::build::set;
-use solver::add;
-use solver::byte;
-use solver::mul;
-use solver::sub;
 use tally::begin_folder;
 use tally::close_group;
 use tally::count;
@@ -136,7 +136,7 @@ fn weighed_graph(g: &mut [u8], d: usize, w: usize) -> usize {
 fn lowered(t: &mut [usize; 40], m: &[u8], d: usize, w: usize, at: usize, node: usize) {
     let mut g = [0u8; 192];
     let l = weighed_graph(&mut g, d, w);
-    let value = solver::long(&g, at);
+    let value = clamped::long(&g, at);
     put32(&mut g, at, sub(value, 1));
     let o = outcome_of(laguipy::graph_check(m, head(&g, l)));
     judge(t, b" weights, one unit low", o, 25, node);

@@ -1,9 +1,9 @@
 // The library's steps, figures and root values against the solver's. Safe and ending on any arguments; its contracts
 // say no more.
+use clamped::add;
+use clamped::sub;
 use solver::Trial;
 use solver::ZERO;
-use solver::add;
-use solver::sub;
 use tally::BOUNDS;
 use tally::STEPS;
 use tally::TOO_BIG;

@@ -12,17 +12,17 @@ use Rattle.solver.proofs.+best+chance+sum.Lts-chance as chance-lts
 use Rattle.solver.proofs.sum.Reads as sum
 use Rattle.solver.proofs.sum.Kinds as sum-kinds
 use Rattle.solver.proofs.+best+chance+sum.Lts-sum as sum-lts
-use Rattle.solver.proofs.add.Reads as add-reads
+use Rattle.clamped.proofs.add.Reads as add-reads
 use Rattle.solver.proofs.branch_part.Reads as branch-part-reads
 use Rattle.solver.proofs.branches.Reads as branches-reads
 use Rattle.solver.proofs.commands.Reads as commands-reads
 use Rattle.solver.proofs.enabled.Reads as enabled-reads
 use Rattle.solver.proofs.first_branch.Reads as first-branch-reads
 use Rattle.solver.proofs.is_target.Reads as is-target-reads
-use Rattle.solver.proofs.mul.Reads as mul-reads
+use Rattle.clamped.proofs.mul.Reads as mul-reads
 use Rattle.solver.proofs.next.Reads as next-reads
 use Rattle.solver.proofs.power.Reads as power-reads
-use Rattle.solver.proofs.sub.Reads as sub-reads
+use Rattle.clamped.proofs.sub.Reads as sub-reads
 use Rattle.solver.proofs.total.Reads as total-reads
 use Rattle.solver.proofs.+best+chance+sum.{statement}
 use Rattle.solver.proofs.+best+chance+sum.Tie.{close}

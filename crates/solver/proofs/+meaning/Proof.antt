@@ -7,7 +7,7 @@ use Rattle.solver.proofs.meaning.Kinds as meaning-kinds
 use Rattle.solver.proofs.+meaning.Lts-meaning as meaning-lts
 use Rattle.solver.proofs.joined.Reads as joined-reads
 use Rattle.solver.proofs.part.Reads as part-reads
-use Rattle.solver.proofs.sub.Reads as sub-reads
+use Rattle.clamped.proofs.sub.Reads as sub-reads
 use Rattle.solver.proofs.value_of.Reads as value-of-reads
 use Rattle.solver.proofs.whole.Reads as whole-reads
 use Rattle.solver.proofs.+meaning.{statement}

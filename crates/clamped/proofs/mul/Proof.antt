@@ -3,8 +3,8 @@ use Prim.Native.Nat.{ℕ, _≤_, _*_, _/_}
 use native.Mathlib.Nat.{mul-div-le, mul-le-mul-left}
 use native.Mathlib.Omega.{arith}
 use borrow.Author.Needs.{needs}
-use Rattle.solver.proofs.mul.Statement.{statement}
-use Rattle.solver.proofs.mul.Tie as tie
+use Rattle.clamped.proofs.mul.Statement.{statement}
+use Rattle.clamped.proofs.mul.Tie as tie
 
 small : (most a b : ℕ) → b ≤ most / a → a * b ≤ most
 small most a b h = omega (arith, mul-le-mul-left a h, mul-div-le most a)
