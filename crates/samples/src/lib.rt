@@ -1,4 +1,2 @@
-// Folders for the tests: from text, of any size, and the pedal example's. Safe and ending on any arguments; its contracts
-// say no more.
+// Folders for the tests, from text, and the pedal example's. Safe and ending on any arguments; its contracts say no more.
 pub mod build;
-pub mod sized;

@@ -13,9 +13,9 @@ use samples::build::head;
 use samples::build::pedal_graph;
 use samples::build::pedal_model;
 use samples::build::put16;
-use samples::sized::deep_model;
-use samples::sized::sized_graph;
-use samples::sized::sized_model;
+use sized::deep_model;
+use sized::sized_graph;
+use sized::sized_model;
 use tally::number_of;
 use tally::outcome_of;
 

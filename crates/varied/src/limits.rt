@@ -2,8 +2,8 @@
 use samples::build::contents;
 use samples::build::fields;
 use samples::build::head;
-use samples::sized::hostile_model;
-use samples::sized::sized_graph;
+use sized::hostile_model;
+use sized::sized_graph;
 use solver::ZERO;
 use tally::close_group;
 use tally::hold;

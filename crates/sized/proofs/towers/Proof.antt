@@ -2,8 +2,8 @@ use Prim.Native.Nat.{_≤_, _-_}
 use borrow.Author.Needs.{needs}
 use lib.ListN.{length}
 use mathlib.Core.Path.{_≡_}
-use Rattle.samples.proofs.sized.towers.Statement.{statement}
-use Rattle.samples.proofs.sized.towers.Tie as tie
+use Rattle.sized.proofs.towers.Statement.{statement}
+use Rattle.sized.proofs.towers.Tie as tie
 
 abbrev Inv-loop : tie.InvT-loop
 Inv-loop out₀ i₀ out i = (i ≤ 252) × (length out ≡ length out₀)

@@ -1,12 +1,13 @@
-// Models and graphs of any size, and the model that costs the most.
-use crate::build::clear;
-use crate::build::contents;
-use crate::build::fields;
-use crate::build::put16;
-use crate::build::repeated;
+// Models and graphs of any size for the tests, and the model that costs the most. Safe and ending on any arguments; its
+// contracts say no more.
 use clamped::add;
 use clamped::mul;
 use clamped::sub;
+use samples::build::clear;
+use samples::build::contents;
+use samples::build::fields;
+use samples::build::put16;
+use samples::build::repeated;
 
 // D, and entry 1 for the target.
 fn sized_terms(out: &mut [u8], d: usize) {

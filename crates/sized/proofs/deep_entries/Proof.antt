@@ -2,8 +2,8 @@ use Prim.Native.Nat.{_-_}
 use borrow.Author.Needs.{needs}
 use lib.ListN.{length}
 use mathlib.Core.Path.{_≡_}
-use Rattle.samples.proofs.sized.deep_entries.Statement.{statement}
-use Rattle.samples.proofs.sized.deep_entries.Tie as tie
+use Rattle.sized.proofs.deep_entries.Statement.{statement}
+use Rattle.sized.proofs.deep_entries.Tie as tie
 
 abbrev Inv-loop : tie.InvT-loop
 Inv-loop out₀ e i₀ out i = length out ≡ length out₀

@@ -2,8 +2,8 @@ use Prim.Native.Nat.{_≤_, _-_}
 use borrow.Author.Needs.{needs}
 use lib.ListN.{length}
 use mathlib.Core.Path.{_≡_}
-use Rattle.samples.proofs.sized.sized_edges.Statement.{statement}
-use Rattle.samples.proofs.sized.sized_edges.Tie as tie
+use Rattle.sized.proofs.sized_edges.Statement.{statement}
+use Rattle.sized.proofs.sized_edges.Tie as tie
 
 abbrev Inv-loop : tie.InvT-loop
 Inv-loop out₀ at c b end₀ i₀ out end i = (i ≤ c) × (length out ≡ length out₀)
