@@ -15,7 +15,11 @@ ghost use Rattle.model.specs.Rules.{variableFits, termsFit, commandFits, record
 ghost use Rattle.model.specs.Table.{contentRows, modelOutcome};
 ghost use Rattle.model.specs.Valid.{FolderRight};
 ghost use Rattle.content.specs.Bodies.{Held};
+use expressions::MOST_EXPRESSIONS;
 use folder::Outcome;
+use model::LEAST_BOUND;
+use model::MOST_BOUND;
+use model::MOST_BRANCHES;
 
 // Row 4, variable v of the variable body y.
 fn variable_fits(y: &[u8], v: usize) -> bool
@@ -25,7 +29,8 @@ fn variable_fits(y: &[u8], v: usize) -> bool
     let low = folder::signed_field(6, y, v, 0);
     let high = folder::signed_field(6, y, v, 1);
     let initial = folder::signed_field(6, y, v, 2);
-    (low <= high) & (((-30000 <= low) & (high <= 30000)) & ((low <= initial) & (initial <= high)))
+    (low <= high)
+        & (((LEAST_BOUND <= low) & (high <= MOST_BOUND)) & ((low <= initial) & (initial <= high)))
 }
 
 fn first_bad_variable(m: &[u8], n: usize) -> usize
@@ -76,7 +81,7 @@ fn command_fits(x: &[u8], k: &[u8], c: usize) -> bool
 {
     let guard = folder::field(4, k, c, 0);
     let branches = folder::field(4, k, c, 1);
-    expressions::is_truth(x, guard) & ((1 <= branches) & (branches <= 16))
+    expressions::is_truth(x, guard) & ((1 <= branches) & (branches <= MOST_BRANCHES))
 }
 
 fn first_bad_command(m: &[u8], n: usize) -> usize
@@ -279,8 +284,8 @@ fn check_entries(m: &[u8]) -> Outcome
         return folder::refuse(5, p5);
     }
     let y = folder::body(m, 1);
-    let mut lows = [0i64; 512];
-    let mut highs = [0i64; 512];
+    let mut lows = [0i64; MOST_EXPRESSIONS];
+    let mut highs = [0i64; MOST_EXPRESSIONS];
     let p6 = ranges::fill_ranges(x, y, &mut lows, &mut highs);
     if p6 < entries {
         return folder::refuse(6, p6);

@@ -9,6 +9,8 @@ ghost use Rattle.expressions.specs.Levels.{numberStep, truthStep};
 ghost use Rattle.expressions.specs.Rules.{depth, second-unused, third-unused, numberPart, truthPart, numberFits, truthFits, entryFits};
 ghost use Rattle.expressions.specs.Small.{SmallN, SmallT};
 ghost use Rattle.entries.specs.Depth.{formFits, depthBy};
+use expressions::DEEPEST;
+use expressions::MOST_EXPRESSIONS;
 use expressions::NumberForm;
 use expressions::TruthForm;
 
@@ -140,11 +142,11 @@ pub fn first_bad_entry(x: &[u8], variables: usize) -> usize
     ensures { λ r. ⌜ r ≡ firstBad (entryFits (entriesOf (now (x .entry))) variables) (countOf 8 (now (x .entry))) ⌝ }
 {
     let n = folder::count_of(8, x);
-    let mut depths = [0u8; 512];
+    let mut depths = [0u8; MOST_EXPRESSIONS];
     let mut i = 0;
     while i < n {
         let d = depth_by(x, &depths, i);
-        if form_fits(x, variables, i) & (d <= 12) {
+        if form_fits(x, variables, i) & (d <= DEEPEST) {
             depths[i] = d as u8;
             i += 1;
         } else {

@@ -18,8 +18,8 @@ use Rattle.folder.specs.Pick.{pick}
 use Rattle.folder.specs.Fields.{u16}
 use Rattle.folder.specs.Contents.{body}
 use Rattle.folder.specs.Tab.{tab, passing, sameList}
-use Rattle.folder.proofs.Decides.{and-both, both-and, unless, same, same-lists, reworded}
-use Rattle.folder.proofs.TabLaws.{length-tab, getD-tab}
+use Rattle.folder.proofs.Decides.{and-both, both-and, unless, same, same-lists, same-test, reworded}
+use Rattle.folder.proofs.TabLaws.{length-tab, getD-tab, passing-same}
 use Rattle.model.specs.Model.{Model, modelOf}
 use Rattle.graph.specs.Simulation.{edgeSize, edgeAt, nodeField, simulationOf}
 use Rattle.graph.specs.Rules.{enabledIn, sameEdges}
@@ -27,7 +27,6 @@ use Rattle.graph.specs.Walks.{startsAt}
 use Rattle.graph.proofs.EdgePlaces.{place-start, place-next}
 use Rattle.expand.specs.Node.{NodeOf, LabelSettled}
 use Rattle.expand.specs.Tests.{trueAt, namesAt}
-use Rattle.expand.proofs.AllLaws.{same-test, passing-same}
 use Rattle.expand.proofs.Readings.{true-is}
 
 -- ---- numbers that pass a test

@@ -10,6 +10,7 @@ use lib.IntN.{ℤ, pos}
 use Rattle.folder.specs.Pick.{implies}
 use Rattle.folder.specs.Fields.{u16}
 use Rattle.folder.specs.Contents.{body, field, signedField}
+use Rattle.folder.proofs.Decides.{all-same, all-both}
 use Rattle.whole.specs.Order.{eqZ}
 use Rattle.expressions.specs.Reading.{hasBit}
 use Rattle.model.specs.Layout.{variableCount, branchSize}
@@ -20,7 +21,6 @@ use Rattle.graph.specs.Rules.{resultIs, labelFollows, follows, edgeFollows}
 use Rattle.graph.proofs.EdgePlaces.{place-next}
 use Rattle.expand.specs.Node.{NodeOf, LabelSettled, StateSettled, FirstsOf}
 use Rattle.expand.specs.Tests.{readsAt, variableFollows, branchFollows, branchesFollow}
-use Rattle.expand.proofs.AllLaws.{all-same, all-both}
 use Rattle.expand.proofs.Sizes.{records-small}
 use Rattle.expand.proofs.Readings.{reads-is}
 
@@ -49,12 +49,12 @@ module _ {m g : List ℕ} {n : ℕ} {known : List ℕ} {values state : List ℤ}
 
     branch-is : branchFollows (M .variables) (body g 0) (body m 4) known values state r s ≡ follows M G n r s
     unfolding branchFollows follows
-    branch-is = all-same (M .variables) _ _ variable-is ∙ all-both (M .variables) (resultIs M G n r s) (labelFollows M G n r s)
+    branch-is = all-same (M .variables) variable-is ∙ all-both (M .variables) (resultIs M G n r s) (labelFollows M G n r s)
 
   edge-is : (e : ℕ) → G .command n e < M .commands
       → branchesFollow (M .variables) (body g 0) (body m 4) known values state (body g 1) (firstRecord M (G .command n e)) (M .branches (G .command n e)) (edgeAt M g n e) ≡ edgeFollows M G n e
   unfolding branchesFollow edgeFollows
-  edge-is e l = all-same (M .branches (G .command n e)) _ _ (λ b k.
+  edge-is e l = all-same (M .branches (G .command n e)) (λ b k.
       branch-is (firstRecord M (G .command n e) + b) (record-there M (node .model .model) (G .command n e) b l k) (G .successor n e b))
 
 -- ---- as the code reads it

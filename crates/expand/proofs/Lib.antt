@@ -1,4 +1,3 @@
-pub mod AllLaws
 pub mod Sizes
 pub mod Readings
 pub mod Ready

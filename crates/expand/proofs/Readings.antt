@@ -12,6 +12,7 @@ use lib.IntN.{ℤ, pos}
 use Rattle.folder.specs.Pick.{pick, implies}
 use Rattle.folder.specs.Scan.{all}
 use Rattle.folder.specs.Contents.{body, field}
+use Rattle.folder.proofs.Decides.{all-same}
 use Rattle.whole.specs.Order.{eqZ}
 use Rattle.expressions.specs.Reading.{knownTruth, isKnown, isTrue, isFalse, reads}
 use Rattle.expressions.specs.Right.{IsNumber, IsTruth}
@@ -26,7 +27,6 @@ use Rattle.graph.specs.Labels.{look, numberOf, truthOf}
 use Rattle.graph.specs.Rules.{A2}
 use Rattle.expand.specs.Node.{NodeOf, LabelSettled}
 use Rattle.expand.specs.Tests.{knownAt, trueAt, falseAt, readsAt}
-use Rattle.expand.proofs.AllLaws.{all-same}
 
 -- ---- a reading from its two rows
 known-from : (a b : Bool) → isKnown (pick a (knownTruth b) Unknown) ≡ a
@@ -94,7 +94,7 @@ module _ {m g : List ℕ} {n : ℕ} {known : List ℕ} {values : List ℤ} (node
         → (a && b) ≡ A2 M G n
     unfolding A2
     a2-expanded e t p q =
-        rw (sym k ∙ e, and-true, p, q, t, false-is (node .model .model .target), all-same (M .commands) _ _ (λ c l. known-is (node .model .model .commands c l .guard)))
+        rw (sym k ∙ e, and-true, p, q, t, false-is (node .model .model .target), all-same (M .commands) (λ c l. known-is (node .model .model .commands c l .guard)))
 
     pub a2-target : kind ≡ 3 → {target : ℕ} {b : Bool} → target ≡ M .target → b ≡ trueAt known values target → b ≡ A2 M G n
     unfolding A2

@@ -1,11 +1,8 @@
 -- What `settle` asks of a node's label, where A1 holds, and of its concrete state; and what its rows are then.
 -- Assumes nothing.
-use Prim.Native.Nat.{ℕ, _+_, _^_, _<_, _≤_}
-use native.Mathlib.Nat.{div-lt-iff-lt-mul, one-le-pow}
-use native.Mathlib.Decide.{decLt}
-use native.Mathlib.Omega.{arith}
+use Prim.Native.Nat.{ℕ, _+_, _<_}
 use mathlib.Core.Path.{_≡_, sym, _∙_}
-use mathlib.Core.Bool.{true, false≢true}
+use mathlib.Core.Bool.{true}
 use mathlib.Core.List.{List, _++_}
 use lib.ListN.{take, drop}
 use lib.Seq.{take-at}
@@ -21,16 +18,16 @@ use Rattle.expressions.specs.Reading.{lookIn}
 use Rattle.expressions.proofs.Interval.{In}
 use Rattle.evaluate.specs.Formed.{Formed, Ready, Grounded}
 use Rattle.evaluate.specs.Settled.{Settled}
-use Rattle.expressions.proofs.Bits.{no-bit}
+use Rattle.expressions.proofs.Bits.{bit-below}
 use Rattle.evaluate.proofs.Readable.{ready}
 use Rattle.evaluate.proofs.Rows.{state-row}
 use Rattle.model.specs.Layout.{variableCount}
 use Rattle.model.specs.Model.{Model, modelOf, bound}
 use Rattle.model.proofs.Chances.{in-bounds}
+use Rattle.model.proofs.Limits.{limits}
 use Rattle.graph.specs.Simulation.{Simulation, nodeSize, simulationOf}
 use Rattle.graph.specs.Labels.{tracks, concreteState}
 use Rattle.graph.specs.Rules.{A1}
-use Rattle.graph.proofs.Limits.{few-variables}
 use Rattle.expand.specs.Node.{NodeOf, StateSettled}
 
 -- The loaded part of a row.
@@ -74,7 +71,7 @@ module _ {m g : List ℕ} {n : ℕ} (node : NodeOf m g n) where
   pub state-grounded : Grounded (M .entries) (concreteState M G n)
   state-grounded = record {
     variables = M .variables;
-    few = few-variables (node .model);
+    few = limits (node .model .folder) .variables;
     bound = bound M;
     formed = formed;
     low = λ i. inside i .low;
@@ -89,17 +86,8 @@ module _ {m g : List ℕ} {n : ℕ} (node : NodeOf m g n) where
   state-settled {known} {values} s = state-row (M .entries) (concreteState M G n) state-grounded known values s
 
   -- ---- the label: where A1 holds, its tracked values are the state's
-  small-set : G .tracked n < 2 ^ M .variables
-  small-set =
-      let some : 0 < 2 ^ M .variables = omega (arith, one-le-pow (M .variables) 2 (omega arith)) in
-      omega (arith, div-lt-iff-lt-mul {k = 2 ^ M .variables} {x = G .tracked n} {y = 1} some .0 (omega (arith, node .rows .content .nodes n (node .there) .bits)))
-
   tracked-there : (i : ℕ) → tracks G n i ≡ true → i < M .variables
-  tracked-there i t = go (decLt i (M .variables))
-    where
-      go : Dec (i < M .variables) → i < M .variables
-      go (yes l) = l
-      go (no h) = absurd (false≢true (sym (no-bit (G .tracked n) (M .variables) i small-set (omega arith)) ∙ t))
+  tracked-there i t = bit-below (G .tracked n) (M .variables) i (node .rows .content .nodes n (node .there) .bits) t
 
   agrees : A1 M G n ≡ true → (i : ℕ) → tracks G n i ≡ true → valueOf (tab (M .variables) (G .label n)) i ≡ valueOf (concreteState M G n) i
   unfolding A1

@@ -6,9 +6,9 @@ use mathlib.Core.Path.{_≡_}
 use mathlib.Core.List.{List}
 use Rattle.mdp.proofs.SumLaws.{sum-more}
 use Rattle.model.specs.Limits.{mostRecords}
-use Rattle.model.specs.Layout.{recordSize, recordCount}
 use Rattle.model.specs.Model.{modelOf, firstRecord}
 use Rattle.model.specs.Valid.{Valid}
+use Rattle.model.proofs.Limits.{limits}
 use Rattle.graph.specs.Limits.{mostBytes}
 use Rattle.graph.specs.Simulation.{edgeAt, nodeField}
 use Rattle.graph.proofs.EdgePlaces.{place-within, edges-short}
@@ -19,10 +19,6 @@ pub cursor-small : {m g : List ℕ} {n : ℕ} → NodeOf m g n → (e : ℕ) {ed
 cursor-small {m} {g} {n} node e q l s =
     omega (arith, place-within (node .rows) n e (node .there) (omega arith), edges-short (node .rows))
 
-few-records : {m : List ℕ} → Valid m → modelOf m .records ≤ mostRecords
-unfolding recordCount recordSize
-few-records valid = valid .folder .records 4 (omega arith) .few
-
 -- A command's branch records are among the records, of which there are few.
 pub records-small : {m : List ℕ} → Valid m → (c : ℕ) → c < modelOf m .commands → firstRecord (modelOf m) c + modelOf m .branches c ≤ mostRecords
-records-small {m} valid c l = omega (arith, few-records valid, valid .model .records, sum-more (modelOf m .commands) (modelOf m .branches) c l)
+records-small {m} valid c l = omega (arith, limits (valid .folder) .records, valid .model .records, sum-more (modelOf m .commands) (modelOf m .branches) c l)

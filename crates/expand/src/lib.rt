@@ -2,6 +2,7 @@
 // before, once for the node: `known` and `values` for its label, and `state` for its concrete state.
 use graph::EXPANDED;
 use graph::TARGET;
+use model::MOST_VARIABLES;
 ghost use mathlib.Core.Path.{_≡_};
 ghost use mathlib.Core.Bool.{true};
 ghost use Prim.Native.Nat.{_+_, _<_, _≤_, _^_};
@@ -67,7 +68,7 @@ pub fn settle_label(m: &[u8], g: &[u8], n: usize, known: &mut [u8], values: &mut
     let x = folder::body(m, 2);
     let nb = folder::body(g, 0);
     let first = 6 + vars;
-    let mut row: [i64; 16] = [0; 16];
+    let mut row = [0i64; MOST_VARIABLES];
     load_row(nb, vars, n, first, &mut row);
     evaluate::settle(x, set, &row[..vars], known, values);
 }
@@ -81,7 +82,7 @@ pub fn settle_state(m: &[u8], g: &[u8], n: usize, known: &mut [u8], state: &mut 
     let vars = graph::variable_count(m);
     let x = folder::body(m, 2);
     let nb = folder::body(g, 0);
-    let mut row: [i64; 16] = [0; 16];
+    let mut row = [0i64; MOST_VARIABLES];
     load_row(nb, vars, n, 6, &mut row);
     evaluate::settle(x, 65535, &row[..vars], known, state);
 }
@@ -269,6 +270,12 @@ fn branches_follow(
     true
 }
 
+// B2 of a node: whether it holds, and if so, where the next node's edges start.
+pub struct Followed {
+    pub holds: bool,
+    pub next: usize,
+}
+
 // Each edge of node n, from `at` on.
 fn edges_follow(
     m: &[u8],
@@ -279,13 +286,13 @@ fn edges_follow(
     known: &[u8],
     values: &[i64],
     state: &[i64],
-) -> bool
+) -> Followed
     requires { ⌜ NodeOf (now m) (now g) n ⌝ }
     requires { ⌜ at ≡ startsAt (modelOf (now m)) (now g) n ⌝ }
     requires { ⌜ FirstsOf (now m) (now firsts) ⌝ }
     requires { ⌜ LabelSettled (now m) (now g) n (now known) (now values) ⌝ }
     requires { ⌜ StateSettled (now m) (now g) n (now state) ⌝ }
-    ensures { λ r. ⌜ r ≡ edgesFollow (modelOf (now (m .entry))) (simulationOf (modelOf (now (m .entry))) (now (g .entry))) n ⌝ }
+    ensures { λ r. ⌜ (r .holds ≡ edgesFollow (modelOf (now (m .entry))) (simulationOf (modelOf (now (m .entry))) (now (g .entry))) n) × (r .holds ≡ true → r .next ≡ startsAt (modelOf (now (m .entry))) (now (g .entry)) (n + 1)) ⌝ }
 {
     let vars = graph::variable_count(m);
     let cs = folder::body(m, 3);
@@ -303,13 +310,19 @@ fn edges_follow(
             p += 2 + 2 * branches;
             e += 1;
         } else {
-            return false;
+            return Followed {
+                holds: false,
+                next: p,
+            };
         }
     }
-    true
+    Followed {
+        holds: true,
+        next: p,
+    }
 }
 
-// Row 21.
+// Row 21. A node that is not expanded has no edges.
 pub fn b2(
     m: &[u8],
     g: &[u8],
@@ -319,17 +332,20 @@ pub fn b2(
     known: &[u8],
     values: &[i64],
     state: &[i64],
-) -> bool
+) -> Followed
     requires { ⌜ NodeOf (now m) (now g) n ⌝ }
     requires { ⌜ at ≡ startsAt (modelOf (now m)) (now g) n ⌝ }
     requires { ⌜ FirstsOf (now m) (now firsts) ⌝ }
     requires { ⌜ LabelSettled (now m) (now g) n (now known) (now values) ⌝ }
     requires { ⌜ StateSettled (now m) (now g) n (now state) ⌝ }
-    ensures { λ r. ⌜ r ≡ B2 (modelOf (now (m .entry))) (simulationOf (modelOf (now (m .entry))) (now (g .entry))) n ⌝ }
+    ensures { λ r. ⌜ (r .holds ≡ B2 (modelOf (now (m .entry))) (simulationOf (modelOf (now (m .entry))) (now (g .entry))) n) × (r .holds ≡ true → r .next ≡ startsAt (modelOf (now (m .entry))) (now (g .entry)) (n + 1)) ⌝ }
 {
     if node_field(m, g, n, 0) == EXPANDED {
         edges_follow(m, g, n, at, firsts, known, values, state)
     } else {
-        true
+        Followed {
+            holds: true,
+            next: at,
+        }
     }
 }

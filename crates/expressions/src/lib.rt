@@ -5,6 +5,15 @@ ghost use Rattle.expressions.specs.Entries.{entriesOf, numberFormOf, tru
 ghost use Rattle.expressions.specs.Reading.{hasBit};
 ghost use Rattle.expressions.specs.Small.{SmallN, SmallT};
 
+// Document 01's limits: how many expressions a model has, how deep they are, and how far their ranges reach.
+pub const MOST_EXPRESSIONS: usize = 512;
+
+pub const DEEPEST: usize = 12;
+
+pub const LOWEST: i64 = -1000000;
+
+pub const HIGHEST: i64 = 1000000;
+
 pub enum Arith {
     Add,
     Subtract,

@@ -133,3 +133,21 @@ same-lists [] [] = record { yes = λ e. refl; no = λ e. refl }
 same-lists [] (y ∷ ys) = record { yes = λ e. absurd (false≢true e); no = λ e. cc }
 same-lists (x ∷ xs) [] = record { yes = λ e. absurd (false≢true e); no = λ e. cc }
 same-lists (x ∷ xs) (y ∷ ys) = reworded (λ h i. h .0 i ∷ h .1 i) (λ e. (cc, cc)) (same x y ∧also same-lists xs ys)
+
+-- Two tests that decide one rule are equal.
+pub same-test : {P : Type 0} {a b : Bool} → Decides P a → Decides P b → a ≡ b
+same-test {a = a} {b = b} p q = go a b (λ e. q .no (p .yes e)) (λ e. p .no (q .yes e))
+  where
+    go : (a b : Bool) → (a ≡ true → b ≡ true) → (b ≡ true → a ≡ true) → a ≡ b
+    go true b f g = sym (f refl)
+    go false true f g = g refl
+    go false false f g = refl
+
+-- Scans whose tests agree; and a scan with two tests.
+pub all-same : {a b : ℕ → Bool} (n : ℕ) → ((k : ℕ) → k < n → a k ≡ b k) → all a n ≡ all b n
+all-same {a} {b} n h = same-test (everywhere n (λ k l. passes (a k))) (everywhere n (λ k l. reworded (λ e. h k l ∙ e) (λ e. sym (h k l) ∙ e) (passes (b k))))
+
+pub all-both : (n : ℕ) (a b : ℕ → Bool) → all (λ k. a k && b k) n ≡ (all a n && all b n)
+all-both n a b = same-test
+    (reworded (λ h. ((λ k l. h k l .0), λ k l. h k l .1)) (λ h k l. (h .0 k l, h .1 k l)) (everywhere n (λ k l. passes (a k) ∧also passes (b k))))
+    (everywhere n (λ k l. passes (a k)) ∧also everywhere n (λ k l. passes (b k)))

@@ -1,11 +1,11 @@
 -- Laws of `fill`: a row that is filled from the front with the values of a function.
 -- Assumes nothing.
-use Prim.Native.Nat.{ℕ, suc, _+_, _-_, _≤_, _<_}
+use Prim.Native.Nat.{ℕ, suc, _+_, _-_, _≤_, _<_, zero-le}
 use mathlib.Core.Path.{_≡_, refl, ap, _∙_}
 use mathlib.Core.List.{List, append-assoc}
 use native.Mathlib.Numerals.{add-one}
 use native.Mathlib.Omega.{arith}
-use lib.ListN.{length, getD, drop, set, length-append, length-drop, List·getD-append}
+use lib.ListN.{length, getD, drop, set, length-append, length-drop, length-set, List·getD-append}
 use lib.Seq.{drop-cons, set-at, drop-at, getD-append-add, getD-drop}
 use Rattle.folder.specs.Tab.{tab, fill}
 use Rattle.folder.proofs.TabLaws.{length-tab, getD-tab}
@@ -34,3 +34,26 @@ module _ {A : Type 0} where
 
   pub drop-filled : (n : ℕ) (f : ℕ → A) (d : List A) → drop n (fill n f d) ≡ drop n d
   drop-filled n f d = drop-at (tab n f) (drop n d) n (length-tab n f)
+
+-- ---- the three facts of a loop that fills a row, `while i < n { row[i] = f(i); i += 1; }`, whose invariant is `Filled f n row₀ row i`: of n places the first i hold f, and the others are as they were
+pub record Filled {A : Type 0} (f : ℕ → A) (n : ℕ) (row₀ row : List A) (i : ℕ) : Type 0 where
+  pub within : i ≤ n
+  pub long : length row ≡ length row₀
+  pub is : row ≡ fill i f row₀
+
+module _ {A : Type 0} where
+  pub fill-start : (f : ℕ → A) (n : ℕ) (row : List A) → Filled f n row row 0
+  fill-start f n row = record { within = zero-le; long = refl; is = fill-none f row }
+
+  module _ {f : ℕ → A} {n : ℕ} {row₀ row : List A} {i : ℕ} (h : Filled f n row₀ row i) where
+    pub fill-next : {z : A} → i < n → n ≤ length row₀ → z ≡ f i → Filled f n row₀ (set row i z) (i + 1)
+    fill-next {z} l k e = record {
+      within = omega arith;
+      long = length-set row i z ∙ h .long;
+      is = fill-more f row₀ (h .is) e (omega arith);
+    }
+
+    pub fill-over : {k : ℕ} → n ≤ i → n ≡ k → row ≡ fill k f row₀
+    fill-over {k} l e =
+        let q : i ≡ k = omega arith in
+        h .is ∙ ap (λ (j : ℕ). fill j f row₀) q

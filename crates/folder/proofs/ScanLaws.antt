@@ -96,6 +96,18 @@ module _ {ok : ℕ → Bool} {n i : ℕ} (s : Scanned ok n i) where
       let q : i ≡ n = omega arith in
       sym (s .passed) ∙ ap (firstBad ok) q
 
+-- ---- a scan that answers whether all places pass: `.. else { return false } } true`
+module _ {ok : ℕ → Bool} {n i : ℕ} (s : Scanned ok n i) where
+  pub all-fails : {t : Bool} → i < n → t ≡ ok i → t ≡ false → false ≡ all ok n
+  all-fails l e h =
+      let q = scan-found s l e h in
+      sym (ne-eqb _ n (λ p. omega (arith, q)))
+
+  pub all-pass : n ≤ i → true ≡ all ok n
+  all-pass l =
+      let q = scan-over s l in
+      sym (eq-eqb _ n (omega (arith, q, s .within)))
+
 -- ---- a row with one place
 pub only-is : {p : ℕ} {a b : Bool} → p ≡ firstBad (λ x. a) 1 → a ≡ b → p ≡ firstBad (λ x. b) 1
 only-is e q = e ∙ ap (λ (t : Bool). firstBad (λ x. t) 1) q

@@ -76,3 +76,9 @@ passing-has (suc n) test c h t = go (λ p. passing-has n test c p t) (eq-or-lt-o
     go : (c < n → Has (passing n test) c) → (c ≡ n) ⊎ (c < n) → Has (passing n test ++ pick (test n) (n ∷ []) []) c
     go below (inl e) = subst (λ (x : ℕ). Has (passing n test ++ pick (test n) (n ∷ []) []) x) (sym e) (rw (ap test (sym e) ∙ t) (has-last (passing n test) n))
     go below (inr p) = has-more (passing n test) (pick (test n) (n ∷ []) []) c (below p)
+
+-- Two tests that agree on the numbers below n.
+pub passing-same : (n : ℕ) (a b : ℕ → Bool) → ((k : ℕ) → k < n → a k ≡ b k) → passing n a ≡ passing n b
+unfolding passing
+passing-same zero a b h = refl
+passing-same (suc n) a b h = λ i. passing-same n a b (λ k l. h k (le-step l)) i ++ pick (h n (le-refl (suc n)) i) (n ∷ []) []

@@ -1,32 +1,18 @@
--- Loops over the places below n: one that answers whether all pass, and one that counts those that do; and how many
--- nodes are of a kind.
+-- A loop that counts the places below n that pass; and how many nodes are of a kind.
 -- Assumes nothing.
 use Prim.Native.Nat.{ℕ, zero, suc, _+_, _≤_, _<_, zero-le}
 use native.Mathlib.Nat.{eq-or-lt-of-le, le-of-suc-le-suc, not-suc-le-zero}
 use native.Mathlib.Numerals.{add-one}
 use native.Mathlib.Omega.{arith}
-use mathlib.Core.Path.{_≡_, refl, sym, ap, _∙_}
+use mathlib.Core.Path.{_≡_, refl, ap, _∙_}
 use mathlib.Core.Logic.{_≢_, ⊎-elim}
 use mathlib.Core.Bool.{Bool, true, false}
-use borrow.Author.Tests.{eq-eqb, ne-eqb, eqb-false}
+use borrow.Author.Tests.{eqb-false}
 use lib.Dec.{eqb}
 use Rattle.mdp.specs.Sums.{sum}
 use Rattle.folder.specs.Pick.{pick}
-use Rattle.folder.specs.Scan.{all}
-use Rattle.folder.proofs.ScanLaws.{Scanned, scan-found, scan-over}
 use Rattle.graph.specs.Simulation.{Simulation}
 use Rattle.graph.specs.Table.{kindCount}
-
-module _ {ok : ℕ → Bool} {n i : ℕ} (s : Scanned ok n i) where
-  pub all-fails : {t : Bool} → i < n → t ≡ ok i → t ≡ false → false ≡ all ok n
-  all-fails l e h =
-      let q = scan-found s l e h in
-      sym (ne-eqb _ n (λ p. omega (arith, q)))
-
-  pub all-pass : n ≤ i → true ≡ all ok n
-  all-pass l =
-      let q = scan-over s l in
-      sym (eq-eqb _ n (omega (arith, q, s .within)))
 
 -- How many of the places below n pass.
 abbrev pub passes : (ℕ → Bool) → ℕ → ℕ

@@ -3,7 +3,7 @@
 use Prim.Native.Nat.{ℕ, zero, suc, _+_, _≤_, _<_, zero-le}
 use native.Mathlib.Numerals.{add-one}
 use native.Mathlib.Omega.{arith}
-use mathlib.Core.Path.{_≡_, refl, sym, _∙_}
+use mathlib.Core.Path.{_≡_, refl, sym, ap, _∙_}
 use mathlib.Core.List.{List}
 use lib.ListN.{length}
 use borrow.Author.Tests.{leb-true}
@@ -37,6 +37,10 @@ module _ (M : Model) (g : List ℕ) where
     pub place-over : k ≡ edgeAt M g n (nodeField M g n 4) → k ≡ startsAt M g (n + 1)
     unfolding edgeAt edgesStart
     place-over p = rw add-one p
+
+    -- A node without edges leaves the cursor where it is.
+    pub place-skip : nodeField M g n 4 ≡ 0 → k ≡ startsAt M g n → k ≡ startsAt M g (n + 1)
+    place-skip z p = place-over (place-start p ∙ ap (edgeAt M g n) (sym z))
 
 -- ---- what stands there
 module _ {M : Model} {g : List ℕ} (rows : RowsRight M g) where

@@ -1,12 +1,11 @@
 -- What the rules give of a graph's labels and values, in the words of the theory of simulation graphs.
 -- Assumes nothing.
-use Prim.Native.Nat.{ℕ, zero, suc, _+_, _*_, _/_, _^_, _<_, _≤_}
+use Prim.Native.Nat.{ℕ, zero, suc, _+_, _*_, _<_, _≤_}
 use mathlib.Core.Path.{_≡_, refl, sym, ap, _∙_, subst}
 use mathlib.Core.Logic.{_≢_}
-use mathlib.Core.Bool.{Bool, true, false, false≢true}
+use mathlib.Core.Bool.{Bool, true, false}
 use mathlib.Core.List.{List}
-use native.Mathlib.Nat.{pow-le-pow-right, div-eq-of-lt, div-lt-iff-lt-mul, one-le-pow, not-suc-le-zero, le-of-suc-le-suc}
-use native.Mathlib.Decide.{decLt}
+use native.Mathlib.Nat.{not-suc-le-zero, le-of-suc-le-suc}
 use native.Mathlib.Omega.{arith}
 use lib.ListN.{length, getD}
 use lib.IntN.{ℤ, pos}
@@ -16,8 +15,9 @@ use Rattle.folder.specs.Pick.{pick}
 use Rattle.folder.specs.Tab.{tab, passing}
 use Rattle.folder.proofs.TabLaws.{length-tab, getD-tab, passing-at, passing-has}
 use Rattle.expressions.specs.Meaning.{State, valueOf, numberIn, truthIn}
-use Rattle.expressions.specs.Reading.{hasBit, lookIn, isTrue, knownTruth}
+use Rattle.expressions.specs.Reading.{lookIn, isTrue, knownTruth}
 use Rattle.expressions.specs.declared.Number.the-variants.{Known, Unknown as Open}
+use Rattle.expressions.proofs.Bits.{bit-below}
 use Rattle.expressions.proofs.Sound.{Says, SaysT, number-sound, truth-sound, known-is, true-is, false-is, known-truth}
 use Rattle.model.specs.Model.{Model, firstRecord}
 use Rattle.model.specs.Chances.{mdp, next, initialState}
@@ -68,27 +68,13 @@ kind-of-number Kind.expanded = refl
 kind-of-number Kind.covered = refl
 kind-of-number Kind.target = refl
 
--- ---- tracked sets: no bit at or past w
-no-bit : (t w i : ℕ) → t / 2 ^ w ≡ 0 → w ≤ i → hasBit t i ≡ false
-unfolding hasBit
-no-bit t w i e l =
-    let p : 0 < 2 ^ w = one-le-pow w 2 (omega arith) in
-    let h : t / 2 ^ w < 1 = omega arith in
-    let a : t < 1 * 2 ^ w = div-lt-iff-lt-mul {k = 2 ^ w} {x = t} {y = 1} p .0 h in
-    let b : 2 ^ w ≤ 2 ^ i = pow-le-pow-right {n = 2} (omega arith) l in
-    rw (div-eq-of-lt {n = t} {m = 2 ^ i} (omega arith))
-
 true-of-known : (b : Bool) → isTrue (knownTruth b) ≡ b
 true-of-known true = refl
 true-of-known false = refl
 
 module _ (M : Model) (R : ModelRight M) (G : Simulation) (K : ContentRight M G) (A : RulesRight M G) where
   tracked-there : (n : ℕ) → n < G .nodes → (i : ℕ) → tracks G n i ≡ true → i < M .variables
-  tracked-there n l i t = go (decLt i (M .variables))
-    where
-      go : Dec (i < M .variables) → i < M .variables
-      go (yes h) = h
-      go (no g) = absurd (false≢true (sym (no-bit (G .tracked n) (M .variables) i (K .nodes n l .bits) (omega arith)) ∙ t))
+  tracked-there n l i t = bit-below (G .tracked n) (M .variables) i (K .nodes n l .bits) t
 
   -- A label says of each variable nothing, or its value in every state that it contains.
   look-says : (n : ℕ) → n < G .nodes → (s : State) → Contains M G n s → (i : ℕ) → Says (look M G n i) (valueOf s i)

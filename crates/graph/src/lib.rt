@@ -84,7 +84,7 @@ pub fn variable_count(m: &[u8]) -> usize
     requires { ⌜ Valid (now m) ⌝ }
     ensures { λ r. ⌜ (r ≡ variableCount (now (m .entry))) × (r ≤ 16) ⌝ }
 {
-    folder::count_of(6, folder::body(m, 1))
+    model::variable_count(m)
 }
 
 pub fn node_count(m: &[u8], g: &[u8]) -> usize

@@ -8,10 +8,9 @@ use borrow.Author.Tests.{lt-ltb}
 use lib.Dec.{ltb, eqb}
 use lib.IntN.{ℤ, pos, negsuc}
 use Rattle.folder.specs.Fields.{signed16}
-use Rattle.folder.proofs.Decides.{same, reworded}
+use Rattle.folder.proofs.Decides.{same, same-test, reworded}
 use Rattle.whole.specs.Order.{eqZ}
 use Rattle.whole.proofs.Order.{equal-decided}
-use Rattle.labels.proofs.Tests.{tests-same}
 
 -- The bits of a number.
 bits : ℤ → ℕ
@@ -28,5 +27,5 @@ bits-signed u h = go (ltb u 32768) refl
 
 pub signed-same : (a b : ℕ) → a < 65536 → b < 65536 → eqb a b ≡ eqZ (signed16 a) (signed16 b)
 signed-same a b h l =
-    tests-same (eqb a b) (eqZ (signed16 a) (signed16 b)) (same a b)
+    same-test (same a b)
     (reworded (λ e. sym (bits-signed a h) ∙ ap bits e ∙ bits-signed b l) (ap signed16) (equal-decided (signed16 a) (signed16 b)))

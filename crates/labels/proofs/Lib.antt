@@ -1,4 +1,3 @@
-pub mod Tests
 pub mod Fields
 pub mod RuleLaws
 pub mod ValueLaws

@@ -11,6 +11,7 @@ use lib.Signed.{leZ}
 use Rattle.folder.specs.Pick.{implies}
 use Rattle.folder.specs.Contents.{body, countOf, field, signedField}
 use Rattle.folder.specs.Scan.{firstBad}
+use Rattle.folder.proofs.Decides.{all-same}
 use Rattle.whole.specs.Order.{eqZ}
 use Rattle.expressions.specs.Reading.{hasBit}
 use Rattle.model.specs.Layout.{variableCount}
@@ -18,7 +19,6 @@ use Rattle.model.specs.Model.{Model, modelOf}
 use Rattle.graph.specs.Simulation.{Simulation, nodeSize, simulationOf}
 use Rattle.graph.specs.Rules.{A1, C3, C1, C2}
 use Rattle.labels.specs.Agree.{agreesAt}
-use Rattle.labels.proofs.Tests.{all-same}
 
 eqZ-comm : (a b : ℤ) → eqZ a b ≡ eqZ b a
 unfolding eqZ

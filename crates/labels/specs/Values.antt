@@ -1,22 +1,15 @@
--- What the value rule of a node asks of an edge, over the bytes; and what the rows before it give.
+-- What the value rule of a node stands on: what the rows before it give.
 -- Assumes nothing.
 use Prim.Native.Nat.{ℕ, _≤_, _<_}
 use mathlib.Core.Path.{_≡_}
-use mathlib.Core.Bool.{Bool}
 use mathlib.Core.List.{List}
-use lib.Dec.{leb}
 use lib.ListN.{length}
 use Rattle.folder.specs.Contents.{body}
 use Rattle.model.specs.Model.{modelOf}
 use Rattle.model.specs.Valid as Models
 use Rattle.graph.specs.Simulation.{edgesStart, nodeField, nodeCount, simulationOf}
 use Rattle.graph.specs.Valid.{FolderRight, EdgeRight}
-use Rattle.sums.specs.Edges.{after, sumOf}
 use Rattle.sums.specs.Tables.{Tables}
-
--- The weighted sum of values of the edge that is e edges after the one at `at` is at most `limit`.
-unfoldable pub sumFits : List ℕ → List ℕ → List ℕ → List ℕ → List ℕ → ℕ → ℕ → ℕ → Bool
-sumFits cs eb weights firsts values at limit e = leb (sumOf cs eb weights firsts values (after cs eb at e)) limit
 
 -- The model and the graph's folder are right, and so are the edges of node n, which start at `at`; the tables are the
 -- model's; and there is a value for each node.

@@ -14,13 +14,12 @@ ghost use Rattle.whole.specs.Order.{eqZ};
 ghost use Rattle.model.specs.Limits.{mostVariables};
 ghost use Rattle.model.specs.Layout.{variableCount};
 ghost use Rattle.model.specs.Model.{modelOf};
-ghost use Rattle.graph.specs.Limits.{mostBytes, mostNodes};
+ghost use Rattle.graph.specs.Limits.{mostNodes};
 ghost use Rattle.graph.specs.Simulation.{nodeSize, nodeCount, simulationOf};
 ghost use Rattle.graph.specs.Rules.{A1, C3, C1, C2, valueRule};
-ghost use Rattle.sums.specs.Edges.{EdgesReady};
 ghost use Rattle.folder.specs.Tab.{fill};
 ghost use Rattle.labels.specs.Agree.{agreesAt};
-ghost use Rattle.labels.specs.Values.{sumFits, ValueReady};
+ghost use Rattle.labels.specs.Values.{ValueReady};
 
 // The 2-byte field f of node n.
 fn node_field(nb: &[u8], vars: usize, n: usize, f: usize) -> usize
@@ -149,36 +148,6 @@ fn limit_of(m: &[u8], value: usize) -> usize
     folder::field(4, folder::body(m, 0), 0, 0) * value
 }
 
-// The first of `count` edges from `at` on whose weighted sum of values is more than `limit`.
-fn first_above(
-    cs: &[u8],
-    eb: &[u8],
-    weights: &[usize],
-    firsts: &[usize],
-    values: &[u32],
-    at: usize,
-    count: usize,
-    limit: usize,
-) -> usize
-    requires { ⌜ EdgesReady (now cs) (now eb) (now weights) (now firsts) (length (now values)) at count ⌝ }
-    requires { ⌜ length (now eb) ≤ mostBytes ⌝ }
-    ensures { λ r. ⌜ r ≡ firstBad (sumFits (now (cs .entry)) (now (eb .entry)) (now (weights .entry)) (now (firsts .entry)) (now (values .entry)) at limit) count ⌝ }
-{
-    let mut k = at;
-    let mut e = 0;
-    while e < count {
-        let c = folder::u16_at(eb, k);
-        let branches = folder::field(4, cs, c, 1);
-        if sums::edge_sum(weights, values, eb, firsts[c], branches, k) <= limit {
-            k += 2 + 2 * branches;
-            e += 1;
-        } else {
-            return e;
-        }
-    }
-    e
-}
-
 // Row 25, of any value for each node, in `values`. The edges of node n start at `at`; a node that is not expanded has none
 // (row 15), so that nothing is walked for it.
 pub fn value_rule(
@@ -202,8 +171,8 @@ pub fn value_rule(
     let over = value_at(values, cover);
     let cs = folder::body(m, 3);
     let eb = folder::body(g, 1);
-    let limit = limit_of(m, value);
-    let below = first_above(cs, eb, weights, firsts, values, at, count, limit) == count;
+    let best = sums::best_of(cs, eb, weights, firsts, values, at, count);
+    let below = best.greatest <= limit_of(m, value);
     ((!(kind == WAITING) | (value == UNITS)) & (!(kind == TARGET) | (value == UNITS)))
         & ((!(kind == EXPANDED) | below) & (!(kind == COVERED) | (over <= value)))
 }

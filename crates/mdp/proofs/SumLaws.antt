@@ -3,11 +3,13 @@
 --     greatest-above, greatest-below   the greatest is an upper bound, and the least one
 --     attained        the greatest is 0, or one of the values
 --     sum-more        a part of the sum
+--     sum-next, greatest-next   one value more, as a loop adds it
 -- Assumes nothing.
 use Prim.Native.Nat.{ℕ, zero, suc, _+_, _*_, _≤_, _<_, max}
 use native.Mathlib.Nat.{le-step, le-refl, le-trans, le-of-suc-le-suc, not-suc-le-zero, mul-le-mul-left, le-max-left, le-max-right, eq-or-lt-of-le}
 use native.Mathlib.Nat.{max-eq-left, max-eq-right}
 use native.Mathlib.Decide.{decLe}
+use native.Mathlib.Numerals.{add-one}
 use native.Mathlib.Omega.{arith}
 use mathlib.Core.Path.{_≡_, refl, sym, ap, _∙_, subst}
 use mathlib.Core.Logic.{_⊎_, inl, inr, ⊎-elim}
@@ -62,3 +64,10 @@ sum-more (suc n) f c h =
     ⊎-elim (λ e. subst (λ (k : ℕ). sum k (λ i _. f i) + f k ≤ sum (suc n) (λ i _. f i)) (sym e) (le-refl _))
     (λ l. omega (arith, sum-more n f c l))
     (eq-or-lt-of-le (le-of-suc-le-suc h))
+
+module _ (n : ℕ) (f : ℕ → ℕ) {a t : ℕ} where
+  pub sum-next : a ≡ sum n (λ i _. f i) → t ≡ f n → a + t ≡ sum (n + 1) (λ i _. f i)
+  sum-next p q = rw (p, q, add-one) refl
+
+  pub greatest-next : a ≡ greatest n (λ i _. f i) → t ≡ f n → max a t ≡ greatest (n + 1) (λ i _. f i)
+  greatest-next p q = rw (p, q, add-one) refl

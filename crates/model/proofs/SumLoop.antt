@@ -2,9 +2,9 @@
 -- Assumes nothing.
 use Prim.Native.Nat.{ℕ, _+_, _*_, _≤_, _<_, zero-le}
 use mathlib.Core.Path.{_≡_, refl, ap, _∙_}
-use native.Mathlib.Numerals.{add-one}
 use native.Mathlib.Omega.{arith}
 use Rattle.mdp.specs.Sums.{sum}
+use Rattle.mdp.proofs.SumLaws.{sum-next as sum-after}
 
 -- s is the sum of f after i turns of n.
 pub record Summed (f : ℕ → ℕ) (n i s : ℕ) : Type 0 where
@@ -17,7 +17,7 @@ sum-start f n = record { within = zero-le; total = refl; small = omega arith }
 
 module _ {f : ℕ → ℕ} {n i s : ℕ} (h : Summed f n i s) where
   pub sum-next : {x : ℕ} → i < n → x ≡ f i → x < 65536 → Summed f n (i + 1) (s + x)
-  sum-next l e b = record { within = omega arith; total = rw (add-one, h .total, e) refl; small = omega arith }
+  sum-next l e b = record { within = omega arith; total = sum-after i f (h .total) e; small = omega arith }
 
   pub sum-over : n ≤ i → s ≡ sum n (λ j _. f j)
   sum-over l =

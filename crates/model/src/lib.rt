@@ -9,7 +9,25 @@ ghost use Rattle.model.specs.Model.{firstRecord, modelIn};
 ghost use Rattle.model.specs.Rules.{bytesFit, recordsFit};
 ghost use Rattle.model.specs.Table.{folderRows};
 ghost use Rattle.model.specs.View.{isAccepted, recordThere, viewStart, viewPart};
+use expressions::MOST_EXPRESSIONS;
 use folder::Outcome;
+
+// Document 01's limits: bytes of the folder, records of the bodies, branches of a command, and a variable's bounds.
+const LEAST_BYTES: usize = 40;
+
+const MOST_BYTES: usize = 40000;
+
+pub const MOST_VARIABLES: usize = 16;
+
+pub const MOST_COMMANDS: usize = 64;
+
+pub const MOST_RECORDS: usize = 1024;
+
+pub const MOST_BRANCHES: usize = 16;
+
+pub const LEAST_BOUND: i64 = -30000;
+
+pub const MOST_BOUND: i64 = 30000;
 
 // A value for each body.
 pub fn select(
@@ -55,7 +73,7 @@ pub fn record_count(m: &[u8], e: usize) -> usize
 fn bytes_fit(m: &[u8]) -> bool
     ensures { λ r. ⌜ r ≡ bytesFit (now (m .entry)) ⌝ }
 {
-    (40 <= m.len()) & (m.len() <= 40000)
+    (LEAST_BYTES <= m.len()) & (m.len() <= MOST_BYTES)
 }
 
 // Row 3, body e.
@@ -66,7 +84,15 @@ fn records_fit(m: &[u8], e: usize) -> bool
     let size = record_size(m, e);
     let b = folder::body(m, e);
     let n = folder::count_of(size, b);
-    ((b.len() % size == 0) & (1 <= n)) & (n <= select(e, 1, 16, 512, 64, 1024))
+    let most = select(
+        e,
+        1,
+        MOST_VARIABLES,
+        MOST_EXPRESSIONS,
+        MOST_COMMANDS,
+        MOST_RECORDS,
+    );
+    ((b.len() % size == 0) & (1 <= n)) & (n <= most)
 }
 
 fn first_bad_records(m: &[u8]) -> usize

@@ -15,12 +15,13 @@ use Rattle.model.specs.Limits.{mostVariables}
 use Rattle.model.specs.Layout.{variableCount}
 use Rattle.model.specs.Model.{modelOf}
 use Rattle.model.specs.Valid.{Valid}
+use Rattle.model.proofs.Limits.{limits}
 use Rattle.graph.specs.Simulation.{nodeSize, nodeField, nodeCount, simulationOf}
 use Rattle.graph.specs.Rules.{A2, B1, B2}
 use Rattle.graph.specs.Valid.{RowsRight}
 use Rattle.graph.specs.Table.{nodeRules}
 use Rattle.graph.specs.Walks.{startsAt}
-use Rattle.graph.proofs.Limits.{few-variables}
+use Rattle.graph.proofs.EdgePlaces.{place-skip}
 use Rattle.sums.specs.Tables.{Tables}
 use Rattle.folder.specs.Tab.{fill}
 use Rattle.folder.proofs.FillLaws.{getD-filled, getD-kept, length-fill}
@@ -41,8 +42,12 @@ pub nothing-asked : (m g : List ℕ) (n : ℕ) {kind : ℕ} → kind ≡ nodeFie
 unfolding A2 B1 B2 firstBroken
 nothing-asked m g n e a b = rw (ne-eqb (nodeField (modelOf m) g n 0) 1 (λ q. a (e ∙ q)), ne-eqb (nodeField (modelOf m) g n 0) 3 (λ q. b (e ∙ q))) refl
 
+-- Nor has it edges.
+pub no-edges : {m g : List ℕ} {n kind at : ℕ} → NodeOf m g n → kind ≡ nodeField (modelOf m) g n 0 → (kind ≡ 1 → ⊥) → at ≡ startsAt (modelOf m) g n → at ≡ startsAt (modelOf m) g (n + 1)
+no-edges {m} {g} {n} node k h e = place-skip (modelOf m) g n (node .rows .content .nodes n (node .there) .edges (λ q. h (k ∙ q))) e
+
 pub few-enough : {m g : List ℕ} {n : ℕ} → NodeOf m g n → (variableCount m ≤ mostVariables) × (n ≤ 65536)
-few-enough node = (few-variables (node .model), omega (arith, node .there, node .rows .folder .few))
+few-enough node = (limits (node .model .folder) .variables, omega (arith, node .there, node .rows .folder .few))
 
 module _ {m g values weights firsts : List ℕ} (r : RulesReady m g values weights firsts) where
   pub node-of : {n : ℕ} → n < nodeCount (modelOf m) g → NodeOf m g n

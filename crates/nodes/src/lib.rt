@@ -1,10 +1,13 @@
 // The graph check of an accepted model: rows 18 to 25 after rows 12 to 17, the rules of each node finished before the
 // next one's; and what an accepted graph has.
+use expressions::MOST_EXPRESSIONS;
 use folder::Outcome;
 use graph::EXPANDED;
 use graph::MOST_NODES;
 use graph::Summary;
 use graph::TARGET;
+use model::MOST_COMMANDS;
+use model::MOST_RECORDS;
 ghost use mathlib.Core.Path.{_≡_};
 ghost use mathlib.Core.Bool.{true};
 ghost use Prim.Native.Nat.{_+_, _≤_};
@@ -20,59 +23,55 @@ ghost use Rattle.graph.specs.Walks.{startsAt};
 ghost use Rattle.expand.specs.Node.{NodeOf, FirstsOf};
 ghost use Rattle.nodes.specs.Ready.{RulesReady, readingRules, coverRules};
 
-fn skip_edges(m: &[u8], g: &[u8], n: usize, at: usize) -> usize
-    requires { ⌜ NodeOf (now m) (now g) n ⌝ }
-    requires { ⌜ at ≡ startsAt (modelOf (now m)) (now g) n ⌝ }
-    ensures { λ r. ⌜ r ≡ startsAt (modelOf (now (m .entry))) (now (g .entry)) (n + 1) ⌝ }
-{
-    let size = graph::node_size(graph::variable_count(m));
-    let cs = folder::body(m, 3);
-    let ns = folder::body(g, 0);
-    let es = folder::body(g, 1);
-    let count = folder::field(size, ns, n, 4);
-    let mut k = at;
-    let mut e = 0;
-    while e < count {
-        k += graph::edge_size(cs, es, k);
-        e += 1;
-    }
-    k
+// Of a node: the number of its first broken rule, or 0; and if none is broken, where the next node's edges start.
+struct Ruled {
+    broken: usize,
+    next: usize,
 }
 
 // A2, B1 and B2 of a node that keeps A1, from its readings: the number of the first broken one, or 0.
-fn settled_rules(m: &[u8], g: &[u8], n: usize, at: usize, firsts: &[usize]) -> usize
+fn settled_rules(m: &[u8], g: &[u8], n: usize, at: usize, firsts: &[usize]) -> Ruled
     requires { ⌜ NodeOf (now m) (now g) n ⌝ }
     requires { ⌜ A1 (modelOf (now m)) (simulationOf (modelOf (now m)) (now g)) n ≡ true ⌝ }
     requires { ⌜ at ≡ startsAt (modelOf (now m)) (now g) n ⌝ }
     requires { ⌜ FirstsOf (now m) (now firsts) ⌝ }
-    ensures { λ r. ⌜ r ≡ firstBroken (readingRules (now (m .entry)) (now (g .entry)) n) ⌝ }
+    ensures { λ r. ⌜ (r .broken ≡ firstBroken (readingRules (now (m .entry)) (now (g .entry)) n)) × (r .broken ≡ 0 → r .next ≡ startsAt (modelOf (now (m .entry))) (now (g .entry)) (n + 1)) ⌝ }
 {
-    let mut known = [0u8; 512];
-    let mut values = [0i64; 512];
+    let mut known = [0u8; MOST_EXPRESSIONS];
+    let mut values = [0i64; MOST_EXPRESSIONS];
     expand::settle_label(m, g, n, &mut known, &mut values);
     if !expand::a2(m, g, n, &known, &values) {
-        return 19;
+        return Ruled {
+            broken: 19,
+            next: at,
+        };
     }
     if !expand::b1(m, g, n, at, &known, &values) {
-        return 20;
+        return Ruled {
+            broken: 20,
+            next: at,
+        };
     }
-    let mut flags = [0u8; 512];
-    let mut state = [0i64; 512];
+    let mut flags = [0u8; MOST_EXPRESSIONS];
+    let mut state = [0i64; MOST_EXPRESSIONS];
     expand::settle_state(m, g, n, &mut flags, &mut state);
-    if expand::b2(m, g, n, at, firsts, &known, &values, &state) {
-        0
+    let followed = expand::b2(m, g, n, at, firsts, &known, &values, &state);
+    let next = followed.next;
+    if followed.holds {
+        Ruled { broken: 0, next }
     } else {
-        21
+        Ruled { broken: 21, next }
     }
 }
 
-// A2, B1 and B2. They ask something of expanded and target nodes only: other labels are not read.
-fn reading_rules(m: &[u8], g: &[u8], n: usize, at: usize, firsts: &[usize]) -> usize
+// A2, B1 and B2. They ask something of expanded and target nodes only: other labels are not read, and such nodes have no
+// edges.
+fn reading_rules(m: &[u8], g: &[u8], n: usize, at: usize, firsts: &[usize]) -> Ruled
     requires { ⌜ NodeOf (now m) (now g) n ⌝ }
     requires { ⌜ A1 (modelOf (now m)) (simulationOf (modelOf (now m)) (now g)) n ≡ true ⌝ }
     requires { ⌜ at ≡ startsAt (modelOf (now m)) (now g) n ⌝ }
     requires { ⌜ FirstsOf (now m) (now firsts) ⌝ }
-    ensures { λ r. ⌜ r ≡ firstBroken (readingRules (now (m .entry)) (now (g .entry)) n) ⌝ }
+    ensures { λ r. ⌜ (r .broken ≡ firstBroken (readingRules (now (m .entry)) (now (g .entry)) n)) × (r .broken ≡ 0 → r .next ≡ startsAt (modelOf (now (m .entry))) (now (g .entry)) (n + 1)) ⌝ }
 {
     let size = graph::node_size(graph::variable_count(m));
     let kind = folder::field(size, folder::body(g, 0), n, 0);
@@ -82,7 +81,10 @@ fn reading_rules(m: &[u8], g: &[u8], n: usize, at: usize, firsts: &[usize]) -> u
     if kind == TARGET {
         return settled_rules(m, g, n, at, firsts);
     }
-    0
+    Ruled {
+        broken: 0,
+        next: at,
+    }
 }
 
 // C3, C1, C2 and the value rule.
@@ -116,8 +118,8 @@ fn cover_rules(
     }
 }
 
-// The number of node n's first broken rule, or 0.
-fn first_broken(
+// All rules of node n.
+fn node_rules(
     m: &[u8],
     g: &[u8],
     n: usize,
@@ -125,20 +127,25 @@ fn first_broken(
     values: &[u32],
     weights: &[usize],
     firsts: &[usize],
-) -> usize
+) -> Ruled
     requires { ⌜ NodeOf (now m) (now g) n ⌝ }
     requires { ⌜ RulesReady (now m) (now g) (now values) (now weights) (now firsts) ⌝ }
     requires { ⌜ at ≡ startsAt (modelOf (now m)) (now g) n ⌝ }
-    ensures { λ r. ⌜ r ≡ firstBroken (nodeRules (modelOf (now (m .entry))) (simulationOf (modelOf (now (m .entry))) (now (g .entry))) n) ⌝ }
+    ensures { λ r. ⌜ (r .broken ≡ firstBroken (nodeRules (modelOf (now (m .entry))) (simulationOf (modelOf (now (m .entry))) (now (g .entry))) n)) × (r .broken ≡ 0 → r .next ≡ startsAt (modelOf (now (m .entry))) (now (g .entry)) (n + 1)) ⌝ }
 {
     if !labels::a1(m, g, n) {
-        return 18;
+        return Ruled {
+            broken: 18,
+            next: at,
+        };
     }
-    let broken = reading_rules(m, g, n, at, firsts);
-    if broken != 0 {
-        return broken;
+    let reading = reading_rules(m, g, n, at, firsts);
+    if reading.broken != 0 {
+        return reading;
     }
-    cover_rules(m, g, n, at, values, weights, firsts)
+    let broken = cover_rules(m, g, n, at, values, weights, firsts);
+    let next = reading.next;
+    Ruled { broken, next }
 }
 
 // The rules of all nodes, with the tables they look in.
@@ -150,11 +157,12 @@ fn all_nodes(m: &[u8], g: &[u8], values: &[u32], weights: &[usize], firsts: &[us
     let mut n = 0;
     let mut at = 0;
     while n < nodes {
-        let broken = first_broken(m, g, n, at, values, weights, firsts);
+        let ruled = node_rules(m, g, n, at, values, weights, firsts);
+        let broken = ruled.broken;
         if broken != 0 {
             return folder::refuse(broken, n);
         }
-        at = skip_edges(m, g, n, at);
+        at = ruled.next;
         n += 1;
     }
     Outcome::Accepted
@@ -167,15 +175,10 @@ fn check_nodes(m: &[u8], g: &[u8]) -> Outcome
     ensures { λ r. ⌜ r ≡ outcome (ruleRows (modelOf (now (m .entry))) (simulationOf (modelOf (now (m .entry))) (now (g .entry)))) ⌝ }
 {
     let mut values = [0u32; MOST_NODES];
-    let mut weights = [0usize; 1024];
-    let mut firsts = [0usize; 64];
+    let mut weights = [0usize; MOST_RECORDS];
+    let mut firsts = [0usize; MOST_COMMANDS];
     labels::fill_values(m, g, &mut values);
-    sums::fill_weights(
-        2 + 2 * graph::variable_count(m),
-        folder::body(m, 4),
-        &mut weights,
-    );
-    sums::fill_firsts(folder::body(m, 3), &mut firsts);
+    sums::fill_tables(m, &mut weights, &mut firsts);
     all_nodes(m, g, &values, &weights, &firsts)
 }
 

@@ -10,6 +10,8 @@ ghost use Rattle.expressions.specs.Ranges.{span, least, greatest, product, arit
 ghost use Rattle.expressions.specs.Rules.{rangeFits};
 ghost use Rattle.ranges.specs.Settled.{Near, Based, Ranged, lowEnds, highEnds};
 use expressions::Arith;
+use expressions::HIGHEST;
+use expressions::LOWEST;
 use expressions::NumberForm;
 use expressions::Range;
 
@@ -105,7 +107,7 @@ fn hull_of(a: Range, b: Range) -> Range
 fn in_limits(a: Range) -> bool
     ensures { λ r. ⌜ r ≡ inside a limits ⌝ }
 {
-    is_inside(a.low, a.high, -1000000, 1000000)
+    is_inside(a.low, a.high, LOWEST, HIGHEST)
 }
 
 // The range that the rows hold at i.

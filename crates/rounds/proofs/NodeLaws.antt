@@ -6,9 +6,9 @@ use native.Mathlib.Omega.{arith}
 use mathlib.Core.Path.{_≡_, refl, sym, _∙_}
 use mathlib.Core.List.{List}
 use Rattle.folder.specs.Contents.{body, countOf, field}
-use Rattle.model.specs.Limits.{mostVariables, mostCommands, mostRecords}
-use Rattle.model.specs.Layout.{variableCount, recordSize, recordCount}
+use Rattle.model.specs.Layout.{variableCount}
 use Rattle.model.specs.Model.{Model, modelOf}
+use Rattle.model.proofs.Limits.{limits}
 use Rattle.graph.specs.Limits.{units}
 use Rattle.graph.specs.Simulation.{Simulation, edgesStart, nodeSize, nodeField, simulationOf}
 use Rattle.graph.specs.Valid.{Valid}
@@ -33,22 +33,10 @@ module _ {m g : List ℕ} (A : Valid m g) where
   abbrev G : Simulation
   G = simulationOf M g
 
-  pub few-variables : variableCount m ≤ mostVariables
-  unfolding recordCount recordSize
-  few-variables = A .model .folder .records 1 (omega arith) .few
-
   pub shaped : {size nodes : ℕ} {nb : List ℕ} → size ≡ nodeSize (variableCount m) → nb ≡ body g 0 → nodes ≡ countOf size nb → Shaped m g size nodes
   shaped {nodes = nodes} p q e =
       let k : nodes ≡ nodesOf m g = e ∙ rw (p, q) refl in
-      record { size-is = p; nodes-are = k; small = omega (arith, few-variables); few = omega (arith, k, A .rows .folder .few) }
-
-  pub few-commands : M .commands ≤ mostCommands
-  unfolding recordCount recordSize
-  few-commands = A .model .folder .records 3 (omega arith) .few
-
-  pub few-records : M .records ≤ mostRecords
-  unfolding recordCount recordSize
-  few-records = A .model .folder .records 4 (omega arith) .few
+      record { size-is = p; nodes-are = k; small = omega (arith, limits (A .model .folder) .variables); few = omega (arith, k, A .rows .folder .few) }
 
   pub some-total : 0 < M .total
   some-total = omega (arith, A .model .model .total)

@@ -1,5 +1,7 @@
 // Figures: the rounds, over two rows that the caller lends.
 use graph::COVERED;
+use model::MOST_COMMANDS;
+use model::MOST_RECORDS;
 ghost use mathlib.Core.Path.{_≡_};
 ghost use Prim.Native.Nat.{_<_, _≤_};
 ghost use lib.ListN.{length};
@@ -13,11 +15,6 @@ ghost use Rattle.graph.specs.Figures.{firstOf, secondOf};
 ghost use Rattle.graph.specs.Valid.{Valid};
 ghost use Rattle.sums.specs.Tables.{Tables, Round};
 ghost use Rattle.rounds.specs.Rounds.{nodesOf, Shaped, ownStartRow, ownNextRow, coverRow, startRow, nextRow, firstAt, secondAt, turnFirst, turnSecond, heldIn, alike, sameFirst};
-
-// At most so many commands and branch records.
-const MOST_COMMANDS: usize = 64;
-
-const MOST_RECORDS: usize = 1024;
 
 // D.
 fn total_of(m: &[u8]) -> usize
@@ -217,11 +214,6 @@ pub fn run_rounds(m: &[u8], g: &[u8], h: usize, first: &mut [u32], second: &mut 
 {
     let mut weights = [0usize; MOST_RECORDS];
     let mut firsts = [0usize; MOST_COMMANDS];
-    sums::fill_weights(
-        2 + 2 * model::variable_count(m),
-        folder::body(m, 4),
-        &mut weights,
-    );
-    sums::fill_firsts(folder::body(m, 3), &mut firsts);
+    sums::fill_tables(m, &mut weights, &mut firsts);
     turns(m, g, &weights, &firsts, h, first, second);
 }

@@ -1,5 +1,7 @@
 // The step of a state by command and branch: rows 29 to 33 of document 01's table, and the result row.
+use expressions::MOST_EXPRESSIONS;
 use folder::Outcome;
+use model::MOST_VARIABLES;
 ghost use mathlib.Core.Path.{_≡_};
 ghost use mathlib.Core.List.{_++_};
 ghost use Prim.Native.Nat.{_≤_};
@@ -91,8 +93,8 @@ fn put_next(x: &[u8], b: &[u8], size: usize, r: usize, s: &[i64], result: &mut [
     requires { ⌜ length (now s) ≤ length (now result) ⌝ }
     ensures { λ _. ⌜ now (result .exit) ≡ fill (length (now (s .entry))) (assignedIn (now (x .entry)) (now (b .entry)) size r (now (s .entry))) (now (result .entry)) ⌝ }
 {
-    let mut known = [0u8; 512];
-    let mut values = [0i64; 512];
+    let mut known = [0u8; MOST_EXPRESSIONS];
+    let mut values = [0i64; MOST_EXPRESSIONS];
     evaluate::settle(x, 65535, s, &mut known, &mut values);
     put_values(&values, b, size, r, s.len(), result);
 }
@@ -144,7 +146,7 @@ fn check_step(m: &[u8], state: &[i16], command: usize, branch: usize, result: &m
     if p30 < n {
         return folder::refuse(30, p30);
     }
-    let mut row = [0i64; 16];
+    let mut row = [0i64; MOST_VARIABLES];
     load(state, &mut row);
     take_branch(m, &row[..n], command, branch, result)
 }

@@ -7,18 +7,11 @@ use mathlib.Core.Path.{_≡_, refl, _∙_}
 use mathlib.Core.List.{List}
 use native.Mathlib.Numerals.{add-one}
 use lib.ListN.{getD}
-use Rattle.mdp.specs.Sums.{sum, greatest}
+use Rattle.mdp.proofs.SumLaws.{sum-next, greatest-next}
 use Rattle.folder.specs.Fields.{u16}
 use Rattle.folder.specs.Contents.{field}
 use Rattle.graph.specs.Simulation.{edgeAfter, edgeSize}
 use Rattle.sums.specs.Edges.{sumAt, EdgeFits, after, EdgeReady, EdgesReady, sumOf, bestOf}
-
--- One more part of a sum, and one more value.
-pub sum-next : (n : ℕ) (f : ℕ → ℕ) {a t : ℕ} → a ≡ sum n (λ i _. f i) → t ≡ f n → a + t ≡ sum (n + 1) (λ i _. f i)
-sum-next n f p q = rw (p, q, add-one) refl
-
-greatest-next : (n : ℕ) (f : ℕ → ℕ) {a t : ℕ} → a ≡ greatest n (λ i _. f i) → t ≡ f n → max a t ≡ greatest (n + 1) (λ i _. f i)
-greatest-next n f p q = rw (p, q, add-one) refl
 
 pub branch-more : (weights row eb : List ℕ) (first k b : ℕ) {a t to : ℕ} → a ≡ sumAt weights row eb first b k
     → to ≡ u16 eb (k + 2 + 2 * b) → t ≡ getD weights (first + b) 0 * getD row to 0 → a + t ≡ sumAt weights row eb first (b + 1) k

@@ -2,15 +2,15 @@
 -- Assumes nothing.
 use Prim.Native.Nat.{ℕ, _+_, _≤_, _<_}
 use native.Mathlib.Nat.{not-suc-le-zero}
-use mathlib.Core.Path.{_≡_, refl, _∙_}
+use mathlib.Core.Path.{_≡_, refl, sym, _∙_}
 use mathlib.Core.List.{List}
 use borrow.Author.Count.{below-more}
 use lib.ListN.{length}
+use Rattle.mdp.proofs.SumLaws.{sum-next}
 use Rattle.folder.specs.Contents.{body, field, countOf}
 use Rattle.model.specs.Layout.{variableCount, branchSize}
 use Rattle.model.specs.Model.{modelOf}
 use Rattle.sums.specs.Tables.{Tables, weightIn, firstIn, Light}
-use Rattle.sums.proofs.EdgeLaws.{sum-next}
 use Rattle.folder.specs.Tab.{fill}
 use Rattle.folder.proofs.FillLaws.{getD-filled, length-fill}
 
@@ -19,6 +19,9 @@ light-none f = record { fits = λ r l. absurd (not-suc-le-zero l) }
 
 pub light-more : (f : ℕ → ℕ) {n v : ℕ} → Light n f → v ≡ f n → v < 65536 → Light (n + 1) f
 light-more f h e l = record { fits = below-more _ _ (h .fits) (rw e at l) }
+
+pub light-over : (f : ℕ → ℕ) {n k : ℕ} → Light n f → n ≡ k → Light k f
+light-over f h e = rw (sym e) h
 
 pub first-more : (cs : List ℕ) (c : ℕ) {a n : ℕ} → a ≡ firstIn cs c → n ≡ field 4 cs c 1 → a + n ≡ firstIn cs (c + 1)
 first-more cs c p q = sum-next c (λ i. field 4 cs i 1) p q

@@ -2,14 +2,18 @@
 use graph::COVERED;
 use graph::EXPANDED;
 ghost use mathlib.Core.Path.{_≡_};
-ghost use Prim.Native.Nat.{_+_, _-_, _*_, _/_, _<_, _≤_, _^_, max};
+ghost use Prim.Native.Nat.{_+_, _*_, _<_, _≤_, _^_, max};
 ghost use lib.ListN.{length};
+ghost use Rattle.mdp.specs.Sums.{roundedUp};
 ghost use Rattle.folder.specs.Fields.{u16};
 ghost use Rattle.folder.specs.Contents.{field, countOf};
 ghost use Rattle.folder.specs.Tab.{fill};
+ghost use Rattle.model.specs.Limits.{mostRecords, mostCommands};
+ghost use Rattle.model.specs.Model.{modelOf};
+ghost use Rattle.model.specs.Valid.{Valid};
 ghost use Rattle.graph.specs.Limits.{units};
 ghost use Rattle.sums.specs.Edges.{sumAt, EdgeFits, after, EdgesReady, bestOf};
-ghost use Rattle.sums.specs.Tables.{weightIn, firstIn, Light, figureBy};
+ghost use Rattle.sums.specs.Tables.{Tables, weightIn, firstIn, Light, figureBy};
 
 // Certainty.
 const UNITS: u32 = 1000000000;
@@ -110,7 +114,7 @@ pub fn best_of(
 // Divided once, and rounded up.
 fn up(x: usize, d: usize) -> usize
     requires { ⌜ (0 < d) × (x + d < 2 ^ 64) ⌝ }
-    ensures { λ r. ⌜ r ≡ (x + (d - 1)) / d ⌝ }
+    ensures { λ r. ⌜ r ≡ roundedUp x d ⌝ }
 {
     let over = d - 1;
     (x + over) / d
@@ -131,7 +135,7 @@ pub fn figure_by(kind: usize, best: usize, d: usize) -> u32
 }
 
 // The table of weights.
-pub fn fill_weights(size: usize, bs: &[u8], weights: &mut [usize])
+fn fill_weights(size: usize, bs: &[u8], weights: &mut [usize])
     requires { ⌜ (0 < size) × (size ≤ 65536) × (countOf size (now bs) ≤ 65536) × (countOf size (now bs) ≤ length (now weights)) ⌝ }
     ensures { λ _. ⌜ now (weights .exit) ≡ fill (countOf size (now (bs .entry))) (weightIn size (now (bs .entry))) (now (weights .entry)) ⌝ }
     ensures { λ _. ⌜ Light (countOf size (now (bs .entry))) (weightIn size (now (bs .entry))) ⌝ }
@@ -145,7 +149,7 @@ pub fn fill_weights(size: usize, bs: &[u8], weights: &mut [usize])
 }
 
 // The table of each command's first branch record.
-pub fn fill_firsts(cs: &[u8], firsts: &mut [usize])
+fn fill_firsts(cs: &[u8], firsts: &mut [usize])
     requires { ⌜ (countOf 4 (now cs) ≤ 65536) × (countOf 4 (now cs) ≤ length (now firsts)) ⌝ }
     ensures { λ _. ⌜ now (firsts .exit) ≡ fill (countOf 4 (now (cs .entry))) (firstIn (now (cs .entry))) (now (firsts .entry)) ⌝ }
 {
@@ -157,4 +161,18 @@ pub fn fill_firsts(cs: &[u8], firsts: &mut [usize])
         next += folder::field(4, cs, c, 1);
         c += 1;
     }
+}
+
+// Both tables of an accepted model.
+pub fn fill_tables(m: &[u8], weights: &mut [usize], firsts: &mut [usize])
+    requires { ⌜ Valid (now m) ⌝ }
+    requires { ⌜ (mostRecords ≤ length (now weights)) × (mostCommands ≤ length (now firsts)) ⌝ }
+    ensures { λ _. ⌜ Tables (modelOf (now (m .entry))) (now (weights .exit)) (now (firsts .exit)) ⌝ }
+{
+    fill_weights(
+        2 + 2 * model::variable_count(m),
+        folder::body(m, 4),
+        weights,
+    );
+    fill_firsts(folder::body(m, 3), firsts);
 }

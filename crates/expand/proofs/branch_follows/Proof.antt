@@ -3,9 +3,8 @@ use mathlib.Core.Path.{_≡_, ap, _∙_}
 use denote.Ref.{now}
 use borrow.Author.Needs.{needs}
 use Rattle.folder.specs.Contents.{field}
-use Rattle.folder.proofs.ScanLaws.{Scanned, scan-start, scan-next}
+use Rattle.folder.proofs.ScanLaws.{Scanned, scan-start, scan-next, all-fails, all-pass}
 use Rattle.graph.specs.Simulation.{nodeSize}
-use Rattle.graph.proofs.CountLaws.{all-fails, all-pass}
 use Rattle.expand.specs.Tests.{variableFollows, branchFollows}
 use Rattle.expand.proofs.branch_follows.Statement.{statement}
 use Rattle.expand.proofs.branch_follows.Tie as tie

@@ -2,8 +2,7 @@ use Prim.Native.Nat.{_+_, _*_, _-_}
 use mathlib.Core.Path.{ap, _∙_}
 use borrow.Author.Needs.{needs}
 use Rattle.folder.specs.Fields.{u16}
-use Rattle.folder.proofs.ScanLaws.{Scanned, scan-start, scan-next}
-use Rattle.graph.proofs.CountLaws.{all-fails, all-pass}
+use Rattle.folder.proofs.ScanLaws.{Scanned, scan-start, scan-next, all-fails, all-pass}
 use Rattle.expand.specs.Tests.{branchFollows, branchesFollow}
 use Rattle.expand.proofs.branches_follow.Statement.{statement}
 use Rattle.expand.proofs.branches_follow.Tie as tie

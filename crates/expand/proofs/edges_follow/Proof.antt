@@ -1,16 +1,16 @@
 use Prim.Native.Nat.{_-_, _≤_}
 use mathlib.Core.Path.{_≡_, ap, _∙_}
+use mathlib.Core.Bool.{false≢true}
 use native.Mathlib.Omega.{arith}
 use denote.Ref.{now}
 use borrow.Author.Needs.{needs}
 use Rattle.folder.specs.Scan.{all}
-use Rattle.folder.proofs.ScanLaws.{Scanned, scan-start, scan-next}
+use Rattle.folder.proofs.ScanLaws.{Scanned, scan-start, scan-next, all-fails, all-pass}
 use Rattle.model.specs.Model.{modelOf}
 use Rattle.graph.specs.Limits.{mostBytes}
 use Rattle.graph.specs.Simulation.{edgeAt, simulationOf}
 use Rattle.graph.specs.Rules.{edgeFollows}
-use Rattle.graph.proofs.CountLaws.{all-fails, all-pass}
-use Rattle.graph.proofs.EdgePlaces.{place-start}
+use Rattle.graph.proofs.EdgePlaces.{place-start, place-over}
 use Rattle.expand.proofs.Sizes.{cursor-small}
 use Rattle.expand.proofs.FollowLaws.{EdgeRead, Held, next-stands, first-there, records-fit, edge-tested}
 use Rattle.expand.proofs.edges_follow.Statement.{statement}
@@ -85,13 +85,20 @@ returns : tie.Need-returns Inv-loop μ-loop
 returns c =
     let f = c .before .before .before in
     let l = loop-of f in
-    let s = start l in
-    all-fails (l .loop .inv .0) (f .before .before .loop-test .taken)
-    (edge-tested (s .pre .0) (read f) (s .pre .1 .1 .0) (s .pre .1 .1 .1 .0) (s .pre .1 .1 .1 .1) (held l) (c .before .branches-follow .ensures)) (c .if1 .left)
-    ∙ ap (all _) (l .before .node-field .ensures .0)
+    let s = start l in (
+      all-fails (l .loop .inv .0) (f .before .before .loop-test .taken)
+          (edge-tested (s .pre .0) (read f) (s .pre .1 .1 .0) (s .pre .1 .1 .1 .0) (s .pre .1 .1 .1 .1) (held l) (c .before .branches-follow .ensures)) (c .if1 .left)
+          ∙ ap (all _) (l .before .node-field .ensures .0),
+      λ h. absurd (false≢true h),
+    )
 
+-- the cursor is past the last edge
 returns-2 : tie.Need-returns-2 Inv-loop μ-loop
-returns-2 c = all-pass (c .before .loop .inv .0) (c .loop-test .left) ∙ ap (all _) (c .before .before .node-field .ensures .0)
+returns-2 c =
+    let l = c .before in
+    let k = l .before .node-field .ensures .0 in
+    let q : l .loop .e ≡ l .before .node-field .result = omega (arith, l .loop .inv .0 .within) in
+    (all-pass (l .loop .inv .0) (c .loop-test .left) ∙ ap (all _) k, λ h. place-over _ _ _ (l .loop .inv .1 ∙ ap (edgeAt _ _ _) (q ∙ k)))
 
 pub edges-follow-spec : {M : Type 1} → statement M
 edges-follow-spec =

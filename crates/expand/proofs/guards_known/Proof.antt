@@ -2,9 +2,8 @@ use Prim.Native.Nat.{_-_}
 use mathlib.Core.Path.{ap, _∙_}
 use borrow.Author.Needs.{needs}
 use Rattle.folder.specs.Scan.{all}
-use Rattle.folder.proofs.ScanLaws.{Scanned, scan-start, scan-next}
+use Rattle.folder.proofs.ScanLaws.{Scanned, scan-start, scan-next, all-fails, all-pass}
 use Rattle.model.specs.Model.{modelOf}
-use Rattle.graph.proofs.CountLaws.{all-fails, all-pass}
 use Rattle.expand.specs.Tests.{knownAt}
 use Rattle.expand.proofs.Readings.{at-guard}
 use Rattle.expand.proofs.guards_known.Statement.{statement}

@@ -3,13 +3,12 @@ use mathlib.Core.Path.{ap, _∙_}
 use denote.Ref.{now}
 use borrow.Author.Needs.{needs}
 use Rattle.folder.specs.Scan.{all}
-use Rattle.folder.proofs.ScanLaws.{Scanned, scan-start, scan-next}
+use Rattle.folder.proofs.ScanLaws.{Scanned, scan-start, scan-next, all-fails, all-pass}
 use Rattle.whole.specs.Order.{eqZ}
 use Rattle.model.specs.Model.{modelOf}
 use Rattle.graph.specs.Simulation.{simulationOf}
 use Rattle.graph.specs.Rules.{rootFits}
 use Rattle.graph.specs.Walks.{NodeBodies}
-use Rattle.graph.proofs.CountLaws.{all-fails, all-pass}
 use Rattle.graph.proofs.root_fits.Statement.{statement}
 use Rattle.graph.proofs.root_fits.Tie as tie
 

@@ -30,26 +30,24 @@ there c = omega (arith, c .loop-test .taken, c .before .before .node-count .ensu
 loop-holds : tie.Need-loop-holds Inv-loop μ-loop
 loop-holds c = (scan-start _ _, sym (place-none _ _))
 
-first-broken-requires : tie.Need-first-broken-requires Inv-loop μ-loop
-first-broken-requires c κs = let r = c .before .before .before .before .before .before .before .before .pre in (node-of r (there c), (r, c .before .loop .inv .1))
+node-rules-requires : tie.Need-node-rules-requires Inv-loop μ-loop
+node-rules-requires c κs = let r = c .before .before .before .before .before .before .before .before .pre in (node-of r (there c), (r, c .before .loop .inv .1))
 
 returns : tie.Need-returns Inv-loop μ-loop
 returns c =
     let n = c .before .before .before .before .loop .n in
-    let b = c .before .before .first-broken .ensures in
+    let b = c .before .before .node-rules .ensures .0 in
     c .refuse .ensures ∙ ap (λ (k : ℕ). refused k n) b
     ∙ refuses (no-row _) (c .before .before .before .before .before .node-count .ensures)
     (scan-found (c .before .before .before .before .loop .inv .0) (c .before .before .before .loop-test .taken) refl (one-broken (node-numbered _ _ _) b (c .before .if1 .taken)))
     (c .before .before .before .loop-test .taken)
 
-skip-edges-requires : tie.Need-skip-edges-requires Inv-loop μ-loop
-skip-edges-requires c κs = (node-of (c .before .before .before .before .before .before .before .before .before .before .pre) (there (c .before .before)), c .before .before .before .loop .inv .1)
-
 loop-again : tie.Need-loop-again Inv-loop μ-loop
 loop-again c =
-    let none : _≡_ {A = ℕ} 0 (c .before .before .first-broken .result) = sym (c .before .if1 .left) in (
-      scan-next (c .before .before .before .before .loop .inv .0) (c .before .before .before .loop-test .taken) refl (all-kept (node-numbered _ _ _) (none ∙ c .before .before .first-broken .ensures)),
-      c .skip-edges .ensures,
+    let r = c .before .node-rules .ensures in
+    let kept = c .if1 .left in (
+      scan-next (c .before .before .before .loop .inv .0) (c .before .before .loop-test .taken) refl (all-kept (node-numbered _ _ _) (sym kept ∙ r .0)),
+      r .1 kept,
     )
 
 returns-2 : tie.Need-returns-2 Inv-loop μ-loop
@@ -64,10 +62,9 @@ all-nodes-spec =
     μ-loop
     (λ c κs. c .before .before .before .before .before .pre .model)
     loop-holds
-    first-broken-requires
+    node-rules-requires
     (λ c κs. search needs)
     returns
-    skip-edges-requires
     (λ c. search needs)
     (λ c. search needs)
     loop-again

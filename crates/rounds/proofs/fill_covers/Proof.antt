@@ -1,12 +1,11 @@
-use Prim.Native.Nat.{_≤_, _<_, _-_}
-use mathlib.Core.Path.{_≡_, _∙_, refl}
+use Prim.Native.Nat.{_<_, _-_}
+use mathlib.Core.Path.{_≡_}
 use denote.Ref.{now}
-use lib.ListN.{length, getD, length-set}
+use lib.ListN.{getD}
 use Rattle.model.specs.Model.{modelOf}
 use Rattle.graph.specs.Simulation.{simulationOf}
 use Rattle.rounds.specs.Rounds.{nodesOf, source}
-use Rattle.folder.specs.Tab.{fill}
-use Rattle.folder.proofs.FillLaws.{fill-none, fill-more}
+use Rattle.folder.proofs.FillLaws.{Filled, fill-start, fill-next, fill-over}
 use Rattle.rounds.proofs.CoverLaws.{source-in, source-is, source-stands}
 use native.Mathlib.Omega.{arith}
 use borrow.Author.Needs.{needs}
@@ -14,7 +13,7 @@ use Rattle.rounds.proofs.fill_covers.Statement.{statement}
 use Rattle.rounds.proofs.fill_covers.Tie as tie
 
 abbrev Inv-loop : tie.InvT-loop
-Inv-loop m g dst₀ size nodes nb n₀ dst n = (n ≤ nodes) × (dst ≡ fill n (λ k. getD dst₀ (source (simulationOf (modelOf m) g) k) 0) dst₀) × (length dst ≡ length dst₀)
+Inv-loop m g dst₀ size nodes nb n₀ dst n = Filled (λ k. getD dst₀ (source (simulationOf (modelOf m) g) k) 0) nodes dst₀ dst n
 
 abbrev μ-loop : tie.MeasureT-loop
 μ-loop m g dst₀ size nodes nb n₀ dst n = nodes - n
@@ -27,9 +26,6 @@ from-is c =
 from-in : (c : tie.After-source-of Inv-loop μ-loop) → c .source-of .result < nodesOf (now (c .before .before .before .before .before .before .before .before .before .before .args .m)) (now (c .before .before .before .before .before .before .before .before .before .before .args .g))
 from-in c = rw (from-is c) (source-in (c .before .before .before .before .before .before .before .before .before .before .pre .0) (c .before .before .before .before .loop .n) (omega arith))
 
-loop-holds : tie.Need-loop-holds Inv-loop μ-loop
-loop-holds c = (omega arith, fill-none _ _, refl)
-
 mul-dst : tie.Need-mul-dst Inv-loop μ-loop
 mul-dst c = omega (arith, from-in c)
 
@@ -39,18 +35,11 @@ slice-read-dst c = omega (arith, from-in (c .before))
 loop-again : tie.Need-loop-again Inv-loop μ-loop
 loop-again c =
     let s = c .before .before .before .before .before .before .before .before .before .before .before in
-    let l = c .before .before .before .before .before .loop in (
-      omega arith,
-      fill-more _ _ (l .inv .1) (source-stands (s .pre .0) (now (s .args .dst)) (l .n) (omega arith) (from-is (c .before)) (l .inv .1)) (omega arith),
-      simp length-set (l .inv .2),
-    )
+    let l = c .before .before .before .before .before .loop in
+    fill-next (l .inv) (c .before .before .before .before .loop-test .taken) (omega arith) (source-stands (s .pre .0) (now (s .args .dst)) (l .n) (omega arith) (from-is (c .before)) (l .inv .is))
 
 returns : tie.Need-returns Inv-loop μ-loop
-returns c =
-    let s = c .before .before .before .before .before .before .before in
-    let l = c .before .loop in
-    let e : l .n ≡ nodesOf (now (s .args .m)) (now (s .args .g)) = omega arith in
-    l .inv .1 ∙ rw e refl
+returns c = fill-over (c .before .loop .inv) (c .loop-test .left) (c .before .before .before .shape-of .ensures .nodes-are)
 
 pub fill-covers-spec : {M : Type 1} → statement M
 fill-covers-spec =
@@ -60,7 +49,7 @@ fill-covers-spec =
     μ-loop
     (λ c κs. search needs)
     (λ c κs. search needs)
-    loop-holds
+    (λ c. fill-start _ _ _)
     (λ c κs. search needs)
     (λ c κs. search needs)
     (λ c κs. search needs)

@@ -1,10 +1,8 @@
 use denote.Ref.{now}
-use Rattle.folder.specs.Tab.{fill}
-use Rattle.folder.proofs.FillLaws.{fill-none, fill-more}
+use Rattle.folder.proofs.FillLaws.{Filled, fill-start, fill-next, fill-over}
 use Rattle.rounds.proofs.NodeLaws.{Parts, some-total, starts-none, node-ready, node-next, node-small, node-figure}
-use Prim.Native.Nat.{_≤_, _<_, _-_}
-use mathlib.Core.Path.{_≡_, _∙_, refl}
-use lib.ListN.{length, length-set}
+use Prim.Native.Nat.{_<_, _-_}
+use mathlib.Core.Path.{_≡_}
 use Rattle.folder.specs.Contents.{body}
 use Rattle.model.specs.Model.{modelOf}
 use Rattle.graph.specs.Simulation.{edgesStart, nodeField, simulationOf}
@@ -15,7 +13,7 @@ use Rattle.rounds.proofs.fill_next.Statement.{statement}
 use Rattle.rounds.proofs.fill_next.Tie as tie
 
 abbrev Inv-loop : tie.InvT-loop
-Inv-loop m g weights firsts src dst₀ size nodes d cs nb eb at₀ n₀ dst at n = (n ≤ nodes) × (at ≡ edgesStart (modelOf m) (body g 1) (λ i. nodeField (modelOf m) g i 4) n) × (dst ≡ fill n (ownNext (modelOf m) (simulationOf (modelOf m) g) src) dst₀) × (length dst ≡ length dst₀)
+Inv-loop m g weights firsts src dst₀ size nodes d cs nb eb at₀ n₀ dst at n = Filled (ownNext (modelOf m) (simulationOf (modelOf m) g) src) nodes dst₀ dst n × (at ≡ edgesStart (modelOf m) (body g 1) (λ i. nodeField (modelOf m) g i 4) n)
 
 abbrev μ-loop : tie.MeasureT-loop
 μ-loop m g weights firsts src dst₀ size nodes d cs nb eb at₀ n₀ dst at n = nodes - n
@@ -32,7 +30,7 @@ parts c = record {
 }
 
 loop-holds : tie.Need-loop-holds Inv-loop μ-loop
-loop-holds c = (omega arith, starts-none (c .before .before .before .before .before .before .before .before .before .before .before .pre .0), fill-none _ _, refl)
+loop-holds c = (fill-start _ _ _, starts-none (c .before .before .before .before .before .before .before .before .before .before .before .pre .0))
 
 best-of-requires : tie.Need-best-of-requires Inv-loop μ-loop
 best-of-requires c κs =
@@ -60,18 +58,13 @@ loop-again c =
     let k : l .n < nodesOf (now (s .args .m)) (now (s .args .g)) = omega (arith, c .before .before .before .before .before .before .before .before .before .before .shape-of .ensures) in
     let q = c .before .before .field2 .ensures .0 in
     let b = c .before .best-of .ensures in (
-      omega arith,
+      fill-next (l .inv .0) (c .before .before .before .before .loop-test .taken) (omega (arith, c .before .before .before .before .before .before .before .before .before .before .shape-of .ensures, s .pre .1 .1 .1))
+          (node-figure (s .pre .0) (parts (c .before .before .before .before .before .before)) (s .pre .1 .0) k (l .inv .1) q _ (b .0) (c .before .before .before .field .ensures .0) (c .figure-by .ensures)),
       node-next (s .pre .0) (parts (c .before .before .before .before .before .before)) (s .pre .1 .0) k (l .inv .1) q (b .1),
-      fill-more _ _ (l .inv .2) (node-figure (s .pre .0) (parts (c .before .before .before .before .before .before)) (s .pre .1 .0) k (l .inv .1) q _ (b .0) (c .before .before .before .field .ensures .0) (c .figure-by .ensures)) (omega (arith, s .pre .1 .1 .1)),
-      simp length-set (l .inv .3),
     )
 
 returns : tie.Need-returns Inv-loop μ-loop
-returns c =
-    let s = c .before .before .before .before .before .before .before .before .before .before .before .before .before in
-    let l = c .before .loop in
-    let e : l .n ≡ nodesOf (now (s .args .m)) (now (s .args .g)) = omega (arith, c .before .before .before .before .before .before .shape-of .ensures) in
-    l .inv .2 ∙ rw e refl
+returns c = fill-over (c .before .loop .inv .0) (c .loop-test .left) (c .before .before .before .before .before .before .shape-of .ensures .nodes-are)
 
 pub fill-next-spec : {M : Type 1} → statement M
 fill-next-spec =

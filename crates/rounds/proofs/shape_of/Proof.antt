@@ -1,13 +1,14 @@
 use native.Mathlib.Omega.{arith}
 use mathlib.Core.Path.{ap, _∙_}
 use borrow.Author.Needs.{needs}
+use Rattle.model.proofs.Limits.{limits}
 use Rattle.graph.specs.Simulation.{nodeSize}
-use Rattle.rounds.proofs.NodeLaws.{few-variables, shaped}
+use Rattle.rounds.proofs.NodeLaws.{shaped}
 use Rattle.rounds.proofs.shape_of.Statement.{statement}
 use Rattle.rounds.proofs.shape_of.Tie as tie
 
 node-size-requires : tie.Need-node-size-requires
-node-size-requires c κs = omega (arith, few-variables (c .before .before .before .pre), c .variable-count .ensures .0)
+node-size-requires c κs = omega (arith, limits (c .before .before .before .pre .model .folder) .variables, c .variable-count .ensures .0)
 
 returns : tie.Need-returns
 returns c =

@@ -2,9 +2,10 @@ use Prim.Native.Nat.{_-_}
 use mathlib.Core.Path.{_∙_}
 use native.Mathlib.Omega.{arith}
 use borrow.Author.Needs.{needs}
+use Rattle.folder.proofs.FillLaws.{Filled, fill-start, fill-next}
 use Rattle.folder.proofs.Signed.{back}
 use Rattle.expressions.specs.Meaning.{valueOf}
-use Rattle.step.proofs.FillLaws.{Filled, fill-start, fill-next, state-filled}
+use Rattle.step.proofs.FillLaws.{state-filled}
 use Rattle.step.proofs.load.Statement.{statement}
 use Rattle.step.proofs.load.Tie as tie
 

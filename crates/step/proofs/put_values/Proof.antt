@@ -1,10 +1,10 @@
 use Prim.Native.Nat.{_-_}
-use mathlib.Core.Path.{_∙_}
+use mathlib.Core.Path.{refl, _∙_}
 use native.Mathlib.Omega.{arith}
 use borrow.Author.Needs.{needs}
+use Rattle.folder.proofs.FillLaws.{Filled, fill-start, fill-next, fill-over}
 use Rattle.step.specs.Stepping.{valueIn}
 use Rattle.step.proofs.Casts.{back16}
-use Rattle.step.proofs.FillLaws.{Filled, fill-start, fill-next, fill-over}
 use Rattle.step.proofs.put_values.Statement.{statement}
 use Rattle.step.proofs.put_values.Tie as tie
 
@@ -36,4 +36,4 @@ put-values-spec =
     (λ c. search needs)
     loop-again
     (λ c. c .before .loop .inv .long)
-    (λ c. fill-over (c .before .loop .inv) (c .loop-test .left)))
+    (λ c. fill-over (c .before .loop .inv) (c .loop-test .left) refl))

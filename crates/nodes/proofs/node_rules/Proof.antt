@@ -1,5 +1,6 @@
 use Prim.Native.Nat.{ℕ}
 use mathlib.Core.Path.{_≡_, sym, _∙_}
+use native.Mathlib.Omega.{arith}
 use mathlib.Core.List.{List}
 use borrow.Author.Needs.{needs}
 use borrow.Author.Tests.{not-true, not-false}
@@ -12,8 +13,8 @@ use Rattle.graph.specs.Table.{nodeRules}
 use Rattle.nodes.specs.Ready.{coverRules}
 use Rattle.nodes.proofs.RuleLaws.{Left, no-rule, rule-breaks, rule-holds, first-rules, then-rules}
 use Rattle.nodes.proofs.NodeLaws.{few-enough, firsts-of, reading-numbered}
-use Rattle.nodes.proofs.first_broken.Statement.{statement}
-use Rattle.nodes.proofs.first_broken.Tie as tie
+use Rattle.nodes.proofs.node_rules.Statement.{statement}
+use Rattle.nodes.proofs.node_rules.Tie as tie
 
 abbrev rules : tie.Start → List Rule
 rules c = nodeRules (modelOf (now (c .args .m))) (simulationOf (modelOf (now (c .args .m))) (now (c .args .g))) (c .args .n)
@@ -28,23 +29,26 @@ a1-requires : tie.Need-a1-requires
 a1-requires c κs = few-enough (c .before .before .before .before .before .pre .0)
 
 returns : tie.Need-returns
-returns c = rule-breaks (no-rule _) (c .before .a1 .ensures) (not-true _ (c .if1 .taken))
+returns c = (rule-breaks (no-rule _) (c .before .a1 .ensures) (not-true _ (c .if1 .taken)), λ e. absurd (omega arith))
 
 reading-rules-requires : tie.Need-reading-rules-requires
 reading-rules-requires c κs = let s = c .before .before .before .before .before .before .before in
     (s .pre .0, (sym (c .before .a1 .ensures) ∙ not-false _ (c .if1 .left), (s .pre .1 .1, firsts-of (s .pre .1 .0))))
 
 returns-2 : tie.Need-returns-2
-returns-2 c = first-rules (covering (c .before .before .before .before .before .before .before .before .before)) (reading-numbered _ _ _) (c .before .reading-rules .ensures) (c .if2 .taken) ∙ sym (past1 (c .before .before) .same)
+returns-2 c =
+    let r = c .before .before .reading-rules .ensures in
+    (first-rules (covering (c .before .before .before .before .before .before .before .before .before .before)) (reading-numbered _ _ _) (r .0) (c .if2 .taken) ∙ sym (past1 (c .before .before .before) .same), r .1)
 
 returns-3 : tie.Need-returns-3
 returns-3 c =
-    let none : _≡_ {A = ℕ} 0 (c .before .before .reading-rules .result) = sym (c .before .if2 .left) in
-    c .cover-rules .ensures
-    ∙ sym (then-rules (covering (c .before .before .before .before .before .before .before .before .before .before)) (reading-numbered _ _ _) (none ∙ c .before .before .reading-rules .ensures))
-    ∙ sym (past1 (c .before .before .before) .same)
+    let r = c .before .before .before .reading-rules .ensures in
+    let kept = c .before .if2 .left in (
+      c .cover-rules .ensures ∙ sym (then-rules (covering (c .before .before .before .before .before .before .before .before .before .before .before)) (reading-numbered _ _ _) (sym kept ∙ r .0)) ∙ sym (past1 (c .before .before .before .before) .same),
+      λ e. r .1 kept,
+    )
 
-pub first-broken-spec : {M : Type 1} → statement M
-first-broken-spec =
+pub node-rules-spec : {M : Type 1} → statement M
+node-rules-spec =
     tie.close
     (tie.spec a1-requires returns reading-rules-requires returns-2 (λ c κs. search needs) returns-3)
