@@ -1,14 +1,14 @@
 -- The tests that the code makes of the rows and of the bodies.
 -- Assumes nothing.
-use Prim.Native.Nat.{ℕ, _+_}
+use Prim.Native.Nat.{ℕ, _+_, _*_, _<_, _≤_}
 use mathlib.Core.Bool.{Bool, _&&_, not}
 use mathlib.Core.List.{List}
 use lib.Dec.{ltb, eqb}
-use lib.ListN.{getD}
+use lib.ListN.{getD, length}
 use lib.IntN.{ℤ, pos}
 use Rattle.folder.specs.Pick.{implies}
 use Rattle.folder.specs.Scan.{all}
-use Rattle.folder.specs.Contents.{field, signedField}
+use Rattle.folder.specs.Fields.{u16, i16}
 use Rattle.whole.specs.Order.{eqZ}
 use Rattle.expressions.specs.Reading.{hasBit}
 use Rattle.model.specs.Layout.{branchSize}
@@ -32,16 +32,27 @@ abbrev pub namesAt : List ℕ → ℕ → ℕ → ℕ → ℕ → Bool
 namesAt eb edges k p c = ltb k edges && eqb (commandIn eb p) c
 
 -- nb is the body of nodes, and bs that of branch records.
-module _ (variables : ℕ) (nb bs known : List ℕ) (values state : List ℤ) where
-  -- Branch record r gives variable v what the node s has, and reads so in the label where s tracks v.
-  unfoldable pub variableFollows : ℕ → ℕ → ℕ → Bool
-  variableFollows r s v =
-      eqZ (signedField (nodeSize variables) nb s (6 + v)) (getD state (field (branchSize variables) bs r (1 + v)) (pos 0))
-      && implies (hasBit (field (nodeSize variables) nb s 5) v) (readsAt known values (field (branchSize variables) bs r (1 + v)) (signedField (nodeSize variables) nb s (6 + variables + v)))
+module _ (variables : ℕ) (nb bs : List ℕ) where
+  -- The branch record at `from` and the node at `to` are whole, and each entry that is assigned has one of `rows` places.
+  pub record Leads (rows from to : ℕ) : Type 0 where
+    pub branch : from + branchSize variables ≤ length bs
+    pub node : to + nodeSize variables ≤ length nb
+    pub entries : (v : ℕ) → v < variables → u16 bs (from + 2 * (1 + v)) < rows
 
-  -- All variables; and all branches of the edge at p, whose records stand from `first` on.
-  unfoldable pub branchFollows : ℕ → ℕ → Bool
-  branchFollows r s = all (variableFollows r s) variables
+  module _ (known : List ℕ) (values state : List ℤ) where
+    -- It gives variable v what the node has, and reads so in the label where the node tracks v.
+    unfoldable pub variableFollows : ℕ → ℕ → ℕ → Bool
+    variableFollows from to v =
+        eqZ (i16 nb (to + 2 * (6 + v))) (getD state (u16 bs (from + 2 * (1 + v))) (pos 0))
+        && implies (hasBit (u16 nb (to + 2 * 5)) v) (readsAt known values (u16 bs (from + 2 * (1 + v))) (i16 nb (to + 2 * (6 + variables + v))))
 
-  unfoldable pub branchesFollow : List ℕ → ℕ → ℕ → ℕ → Bool
-  branchesFollow eb first branches p = all (λ b. branchFollows (first + b) (successorIn eb p b)) branches
+    -- All variables, of branch record r and node s; and all branches of the edge at p, whose records stand from `first` on.
+    unfoldable pub branchFollows : ℕ → ℕ → Bool
+    branchFollows r s = all (variableFollows (branchSize variables * r) (nodeSize variables * s)) variables
+
+    unfoldable pub branchesFollow : List ℕ → ℕ → ℕ → ℕ → Bool
+    branchesFollow eb first branches p = all (λ b. branchFollows (first + b) (successorIn eb p b)) branches
+
+  -- All branches of the edge at p lead so.
+  pub record AllLead (rows : ℕ) (eb : List ℕ) (first branches p : ℕ) : Type 0 where
+    pub each : (b : ℕ) → b < branches → Leads rows (branchSize variables * (first + b)) (nodeSize variables * successorIn eb p b)

@@ -5,20 +5,22 @@ use graph::TARGET;
 use model::MOST_VARIABLES;
 ghost use mathlib.Core.Path.{_≡_};
 ghost use mathlib.Core.Bool.{true};
-ghost use Prim.Native.Nat.{_+_, _<_, _≤_, _^_};
-ghost use lib.ListN.{length};
-ghost use Rattle.folder.specs.Fields.{signed16};
+ghost use Prim.Native.Nat.{_+_, _*_, _<_, _≤_, _^_};
+ghost use lib.ListN.{length, getD};
+ghost use lib.IntN.{pos};
+ghost use Rattle.folder.specs.Fields.{u16, signed16};
 ghost use Rattle.folder.specs.Contents.{field};
 ghost use Rattle.folder.specs.Scan.{all};
 ghost use Rattle.folder.specs.Tab.{fill};
 ghost use Rattle.model.specs.Limits.{mostExpressions};
+ghost use Rattle.model.specs.Layout.{branchSize};
 ghost use Rattle.model.specs.Model.{modelOf};
 ghost use Rattle.model.specs.Valid.{Valid};
 ghost use Rattle.graph.specs.Simulation.{nodeSize, nodeField, simulationOf};
 ghost use Rattle.graph.specs.Rules.{A1, A2, sameEdges, B1, edgesFollow, B2};
 ghost use Rattle.graph.specs.Walks.{startsAt};
 ghost use Rattle.expand.specs.Node.{NodeOf, LabelSettled, StateSettled, FirstsOf};
-ghost use Rattle.expand.specs.Tests.{knownAt, falseAt, readsAt, namesAt, variableFollows, branchFollows, branchesFollow};
+ghost use Rattle.expand.specs.Tests.{knownAt, falseAt, readsAt, namesAt, Leads, AllLead, variableFollows, branchFollows, branchesFollow};
 
 // Fills the front of a row with the values of node n whose first is field f: 6 for the concrete label, and as many more
 // as there are variables for the abstract one.
@@ -191,8 +193,24 @@ pub fn b1(m: &[u8], g: &[u8], n: usize, at: usize, known: &[u8], values: &[i64])
     }
 }
 
-// Branch record r gives variable v what the node s has, and reads so in the label where s tracks v. The set of what s tracks
-// is read once for all variables.
+// What a row has at a place of its own: nothing is tested, for B2 looks at each variable of each branch.
+fn value_in(v: &[i64], e: usize) -> i64
+    requires { ⌜ e < length (now v) ⌝ }
+    ensures { λ r. ⌜ r ≡ getD (now (v .entry)) e (pos 0) ⌝ }
+{
+    v[e]
+}
+
+// `reads_at` for an entry that has a place in both rows.
+fn reads_in(known: &[u8], values: &[i64], e: usize, z: i64) -> bool
+    requires { ⌜ (e < length (now known)) × (e < length (now values)) ⌝ }
+    ensures { λ r. ⌜ r ≡ readsAt (now (known .entry)) (now (values .entry)) e z ⌝ }
+{
+    (known[e] == 1) & whole::equal(value_in(values, e), z)
+}
+
+// The branch record at `from` gives variable v what the node at `to` has, and reads so in the label where the node tracks
+// v. The set of what it tracks is read once for all variables.
 fn variable_follows(
     vars: usize,
     nb: &[u8],
@@ -200,23 +218,24 @@ fn variable_follows(
     known: &[u8],
     values: &[i64],
     state: &[i64],
-    r: usize,
-    s: usize,
+    from: usize,
+    to: usize,
     set: usize,
     v: usize,
 ) -> bool
-    requires { ⌜ (vars ≤ 16) × (r ≤ 65536) × (s ≤ 65536) × (v < vars) ⌝ }
-    ensures { λ t. ⌜ (set ≡ field (nodeSize vars) (now (nb .entry)) s 5 → t ≡ variableFollows vars (now (nb .entry)) (now (bs .entry)) (now (known .entry)) (now (values .entry)) (now (state .entry)) r s v) ⌝ }
+    requires { ⌜ (vars ≤ 16) × (v < vars) ⌝ }
+    requires { ⌜ Leads vars (now nb) (now bs) mostExpressions from to ⌝ }
+    requires { ⌜ (mostExpressions ≤ length (now known)) × (mostExpressions ≤ length (now values)) × (mostExpressions ≤ length (now state)) ⌝ }
+    ensures { λ t. ⌜ (set ≡ u16 (now (nb .entry)) (to + 10) → t ≡ variableFollows vars (now (nb .entry)) (now (bs .entry)) (now (known .entry)) (now (values .entry)) (now (state .entry)) from to v) ⌝ }
 {
-    let size = graph::node_size(vars);
-    let e = folder::field(2 + 2 * vars, bs, r, 1 + v);
-    let concrete = folder::signed_field(size, nb, s, 6 + v);
-    let label = folder::signed_field(size, nb, s, 6 + vars + v);
+    let e = folder::u16_in(bs, from + 2 + 2 * v);
+    let concrete = folder::signed_of(folder::u16_in(nb, to + 12 + 2 * v));
+    let label = folder::signed_of(folder::u16_in(nb, to + 12 + 2 * vars + 2 * v));
     let tracked = expressions::has_bit(set, v);
-    whole::equal(concrete, evaluate::value_at(state, e))
-        & (!tracked | reads_at(known, values, e, label))
+    whole::equal(concrete, value_in(state, e)) & (!tracked | reads_in(known, values, e, label))
 }
 
+// Branch record r and node s.
 fn branch_follows(
     vars: usize,
     nb: &[u8],
@@ -228,12 +247,16 @@ fn branch_follows(
     s: usize,
 ) -> bool
     requires { ⌜ (vars ≤ 16) × (r ≤ 65536) × (s ≤ 65536) ⌝ }
+    requires { ⌜ Leads vars (now nb) (now bs) mostExpressions (branchSize vars * r) (nodeSize vars * s) ⌝ }
+    requires { ⌜ (mostExpressions ≤ length (now known)) × (mostExpressions ≤ length (now values)) × (mostExpressions ≤ length (now state)) ⌝ }
     ensures { λ t. ⌜ t ≡ branchFollows vars (now (nb .entry)) (now (bs .entry)) (now (known .entry)) (now (values .entry)) (now (state .entry)) r s ⌝ }
 {
-    let set = folder::field(graph::node_size(vars), nb, s, 5);
+    let from = (2 + 2 * vars) * r;
+    let to = (12 + 4 * vars) * s;
+    let set = folder::u16_in(nb, to + 10);
     let mut v = 0;
     while v < vars {
-        if variable_follows(vars, nb, bs, known, values, state, r, s, set, v) {
+        if variable_follows(vars, nb, bs, known, values, state, from, to, set, v) {
             v += 1;
         } else {
             return false;
@@ -256,6 +279,8 @@ fn branches_follow(
     p: usize,
 ) -> bool
     requires { ⌜ (vars ≤ 16) × (first + branches ≤ 65536) × (p < 2 ^ 40) ⌝ }
+    requires { ⌜ AllLead vars (now nb) (now bs) mostExpressions (now eb) first branches p ⌝ }
+    requires { ⌜ (mostExpressions ≤ length (now known)) × (mostExpressions ≤ length (now values)) × (mostExpressions ≤ length (now state)) ⌝ }
     ensures { λ t. ⌜ t ≡ branchesFollow vars (now (nb .entry)) (now (bs .entry)) (now (known .entry)) (now (values .entry)) (now (state .entry)) (now (eb .entry)) first branches p ⌝ }
 {
     let mut b = 0;
@@ -292,6 +317,7 @@ fn edges_follow(
     requires { ⌜ FirstsOf (now m) (now firsts) ⌝ }
     requires { ⌜ LabelSettled (now m) (now g) n (now known) (now values) ⌝ }
     requires { ⌜ StateSettled (now m) (now g) n (now state) ⌝ }
+    requires { ⌜ (mostExpressions ≤ length (now known)) × (mostExpressions ≤ length (now values)) × (mostExpressions ≤ length (now state)) ⌝ }
     ensures { λ r. ⌜ (r .holds ≡ edgesFollow (modelOf (now (m .entry))) (simulationOf (modelOf (now (m .entry))) (now (g .entry))) n) × (r .holds ≡ true → r .next ≡ startsAt (modelOf (now (m .entry))) (now (g .entry)) (n + 1)) ⌝ }
 {
     let vars = graph::variable_count(m);
@@ -338,6 +364,7 @@ pub fn b2(
     requires { ⌜ FirstsOf (now m) (now firsts) ⌝ }
     requires { ⌜ LabelSettled (now m) (now g) n (now known) (now values) ⌝ }
     requires { ⌜ StateSettled (now m) (now g) n (now state) ⌝ }
+    requires { ⌜ (mostExpressions ≤ length (now known)) × (mostExpressions ≤ length (now values)) × (mostExpressions ≤ length (now state)) ⌝ }
     ensures { λ r. ⌜ (r .holds ≡ B2 (modelOf (now (m .entry))) (simulationOf (modelOf (now (m .entry))) (now (g .entry))) n) × (r .holds ≡ true → r .next ≡ startsAt (modelOf (now (m .entry))) (now (g .entry)) (n + 1)) ⌝ }
 {
     if node_field(m, g, n, 0) == EXPANDED {

@@ -109,10 +109,10 @@ pub fn number_form(x: &[u8], e: usize) -> NumberForm
 {
     if e < folder::count_of(8, x) {
         number_form_of(
-            folder::field(8, x, e, 0),
-            folder::field(8, x, e, 1),
-            folder::field(8, x, e, 2),
-            folder::field(8, x, e, 3),
+            folder::field_in(8, x, e, 0),
+            folder::field_in(8, x, e, 1),
+            folder::field_in(8, x, e, 2),
+            folder::field_in(8, x, e, 3),
         )
     } else {
         NumberForm::NoNumber
@@ -125,9 +125,9 @@ pub fn truth_form(x: &[u8], e: usize) -> TruthForm
 {
     if e < folder::count_of(8, x) {
         truth_form_of(
-            folder::field(8, x, e, 0),
-            folder::field(8, x, e, 1),
-            folder::field(8, x, e, 2),
+            folder::field_in(8, x, e, 0),
+            folder::field_in(8, x, e, 1),
+            folder::field_in(8, x, e, 2),
         )
     } else {
         TruthForm::NoTruth
@@ -139,7 +139,11 @@ pub fn is_number(x: &[u8], e: usize) -> bool
     requires { ⌜ e ≤ 65536 ⌝ }
     ensures { λ r. ⌜ r ≡ isNumber (entriesOf (now (x .entry))) e ⌝ }
 {
-    (e < folder::count_of(8, x)) & (folder::field(8, x, e, 0) <= 7)
+    if e < folder::count_of(8, x) {
+        folder::field_in(8, x, e, 0) <= 7
+    } else {
+        false
+    }
 }
 
 pub fn is_truth(x: &[u8], e: usize) -> bool

@@ -1,13 +1,13 @@
--- The test of a contents entry decides its rule; and a body as a part of the folder.
+-- The test of a contents entry decides its rule; a body as a part of the folder, and its records.
 -- Assumes nothing.
-use Prim.Native.Nat.{ℕ, _+_, _-_, _<_}
+use Prim.Native.Nat.{ℕ, suc, _+_, _-_, _*_, _/_, _<_, _≤_}
 use mathlib.Core.Path.{_≡_, sym, ap, _∙_}
 use mathlib.Core.List.{List}
-use native.Mathlib.Nat.{add-sub-cancel-left}
+use native.Mathlib.Nat.{add-sub-cancel-left, mul-le-mul-left, mul-suc, mul-div-le}
 use native.Mathlib.Omega.{arith}
-use lib.ListN.{length, take, drop, length-drop, drop-of-length-le}
+use lib.ListN.{length, take, drop, length-take, length-drop, drop-of-length-le}
 use lib.Seq.{take-all, take-nil, drop-length}
-use Rattle.folder.specs.Contents.{startOf, lengthOf, dueStart, entryOk, EntryRight, body}
+use Rattle.folder.specs.Contents.{startOf, lengthOf, dueStart, entryOk, EntryRight, body, countOf}
 use Rattle.folder.proofs.Decides.{Decides, at-most, same, _∧also_, whenever, reworded}
 
 pub entry-decided : (s : List ℕ) (k e : ℕ) → Decides (EntryRight s k e) (entryOk s k e)
@@ -31,3 +31,22 @@ module _ (s : List ℕ) (e : ℕ) {a l : ℕ} (p : a ≡ startOf s e) (q : l ≡
 
   pub body-none : length s < a → take (length s - length s) (drop (length s) s) ≡ body s e
   body-none h = ap (take (length s - length s)) (drop-length s) ∙ take-nil (length s - length s) ∙ sym (take-nil l) ∙ ap (take l) (sym (drop-of-length-le s {i = a} (omega arith))) ∙ body-is
+
+-- A body is no longer than its entry says, and no longer than the folder.
+pub body-said : (s : List ℕ) (e : ℕ) → length (body s e) ≤ lengthOf s e
+unfolding body
+body-said s e = rw length-take (omega arith)
+
+pub body-short : (s : List ℕ) (e : ℕ) → length (body s e) ≤ length s
+unfolding body
+body-short s e = simp (length-take, length-drop) (omega arith)
+
+-- A record that is counted is whole.
+pub record-within : (size bytes i : ℕ) → i < bytes / size → size * i + size ≤ bytes
+record-within size bytes i l =
+    let h : size * suc i ≤ size * (bytes / size) = mul-le-mul-left size l in
+    omega (arith, mul-div-le bytes size, mul-suc size i)
+
+pub record-whole : (size : ℕ) (b : List ℕ) (i : ℕ) → i < countOf size b → size * i + size ≤ length b
+unfolding countOf
+record-whole size b i l = record-within size (length b) i l

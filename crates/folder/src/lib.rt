@@ -1,7 +1,7 @@
 // Folders: little-endian fields, the table of contents, bodies and records. Reads are total: past the end a byte is 0.
 ghost use mathlib.Core.Path.{_≡_};
 ghost use Prim.Native.Nat.{_+_, _*_, _<_, _≤_, _^_};
-ghost use lib.ListN.{getD};
+ghost use lib.ListN.{getD, length};
 ghost use Rattle.folder.specs.Fields.{u16, u32, signed16};
 ghost use Rattle.folder.specs.Contents.{startOf, lengthOf, dueStart, entryOk, body, countOf, field, field4};
 ghost use Rattle.folder.specs.Scan.{firstBad};
@@ -31,12 +31,26 @@ pub fn byte_at(s: &[u8], k: usize) -> usize
     if k < s.len() { s[k] as usize } else { 0 }
 }
 
+fn pair(low: u8, high: u8) -> usize
+    ensures { λ r. ⌜ (r ≡ low + high * 256) × (r < 65536) ⌝ }
+{
+    (low as usize) + (high as usize) * 256
+}
+
+// The 2-byte field at k, which the slice has whole: nothing is tested, for whoever reads many.
+pub fn u16_in(s: &[u8], k: usize) -> usize
+    requires { ⌜ k + 1 < length (now s) ⌝ }
+    ensures { λ r. ⌜ (r ≡ u16 (now (s .entry)) k) × (r < 65536) ⌝ }
+{
+    pair(s[k], s[k + 1])
+}
+
 pub fn u16_at(s: &[u8], k: usize) -> usize
     requires { ⌜ k < 2 ^ 60 ⌝ }
     ensures { λ r. ⌜ (r ≡ u16 (now (s .entry)) k) × (r < 65536) ⌝ }
 {
     if k + 1 < s.len() {
-        s[k] as usize + s[k + 1] as usize * 256
+        u16_in(s, k)
     } else {
         byte_at(s, k)
     }
@@ -160,6 +174,14 @@ pub fn field(size: usize, b: &[u8], i: usize, f: usize) -> usize
     ensures { λ r. ⌜ (r ≡ field size (now (b .entry)) i f) × (r < 65536) ⌝ }
 {
     u16_at(b, position(size, i, f))
+}
+
+// The same of a record that the body counts: nothing is tested.
+pub fn field_in(size: usize, b: &[u8], i: usize, f: usize) -> usize
+    requires { ⌜ (i < countOf size (now b)) × (2 * f + 2 ≤ size) ⌝ }
+    ensures { λ r. ⌜ (r ≡ field size (now (b .entry)) i f) × (r < 65536) ⌝ }
+{
+    u16_in(b, size * i + 2 * f)
 }
 
 // The 4-byte field that starts where the 2-byte field f does.

@@ -8,13 +8,13 @@ use mathlib.Core.List.{List}
 use lib.ListN.{length}
 use borrow.Author.Tests.{leb-true}
 use Rattle.folder.specs.Contents.{body}
+use Rattle.folder.proofs.ContentsLaws.{body-short}
 use Rattle.model.specs.Model.{Model, modelOf}
 use Rattle.model.specs.Valid.{Valid}
 use Rattle.graph.specs.Limits.{mostBytes}
 use Rattle.graph.specs.Simulation.{edgeSize, edgeAfter, edgesStart, edgeWhole, nodeField, edgeAt, nodeCount}
 use Rattle.graph.specs.Valid.{RowsRight}
 use Rattle.graph.specs.Walks.{startsAt, EdgeThere}
-use Rattle.graph.proofs.Limits.{few-branches, body-short}
 
 -- ---- the cursor, of any graph
 module _ (M : Model) (g : List ℕ) where
@@ -73,4 +73,4 @@ module _ {M : Model} {g : List ℕ} (rows : RowsRight M g) where
 -- An edge has at most 34 bytes.
 pub edge-small : {m : List ℕ} {nodes k : ℕ} {es : List ℕ} → Valid m → EdgeThere (modelOf m) nodes es k → edgeSize (modelOf m) es k ≤ 34
 unfolding edgeSize
-edge-small v e = omega (arith, few-branches v _ (e .command))
+edge-small v e = omega (arith, v .model .commands _ (e .command) .few)

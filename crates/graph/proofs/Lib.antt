@@ -1,7 +1,6 @@
 pub mod CountLaws
 pub mod EdgeLaws
 pub mod EdgePlaces
-pub mod Limits
 pub mod NodeLaws
 pub mod Decided
 pub mod Labelled

@@ -1,18 +1,19 @@
 -- The view: a record that is there lies within the folder, and where it starts.
 -- Assumes nothing.
-use Prim.Native.Nat.{ℕ, suc, _+_, _-_, _*_, _/_, _<_, _≤_}
+use Prim.Native.Nat.{ℕ, _+_, _-_, _*_, _<_, _≤_}
 use mathlib.Core.Path.{_≡_, refl}
 use mathlib.Core.Bool.{Bool, true, false, _&&_, false≢true}
 use mathlib.Core.List.{List, []}
-use native.Mathlib.Nat.{mul-le-mul-left, mul-suc, mul-div-le, zero-add, add-sub-cancel-left, min-le-left}
+use native.Mathlib.Nat.{zero-add, add-sub-cancel-left}
 use native.Mathlib.Omega.{arith}
 use borrow.Author.Tests.{ltb-true, le-ltb}
 use lib.Dec.{ltb}
-use lib.ListN.{length, take, drop, length-take}
+use lib.ListN.{length, take, drop}
 use Rattle.folder.specs.Contents.{startOf, lengthOf, body, countOf}
 use Rattle.folder.specs.Table.{outcome}
 use Rattle.folder.specs.declared.Outcome.{Outcome}
 use Rattle.folder.specs.declared.Outcome.the-variants.{Accepted, Refused}
+use Rattle.folder.proofs.ContentsLaws.{body-said, record-within}
 use Rattle.folder.proofs.Decides.{and-both}
 use Rattle.folder.proofs.TableLaws.{accepted-asks}
 use Rattle.model.specs.Layout.{bodies, recordSize, recordCount}
@@ -20,16 +21,6 @@ use Rattle.model.specs.Table.{folderRows}
 use Rattle.model.specs.Valid.{FolderRight}
 use Rattle.model.specs.View.{isAccepted, recordThere, viewStart, viewLength, viewPart}
 use Rattle.model.proofs.Decided.{folder-asks}
-
--- A record of a body lies within the body.
-pub record-within : (size bytes i : ℕ) → i < bytes / size → size * i + size ≤ bytes
-record-within size bytes i l =
-    let h : size * suc i ≤ size * (bytes / size) = mul-le-mul-left size l in
-    omega (arith, mul-div-le bytes size, mul-suc size i)
-
-body-short : (m : List ℕ) (e : ℕ) → length (body m e) ≤ lengthOf m e
-unfolding body
-body-short m e = rw length-take (min-le-left _ _)
 
 pub accepted-is : (o : Outcome) → isAccepted o ≡ true → o ≡ Accepted
 accepted-is Accepted h = refl
@@ -65,7 +56,7 @@ module _ (m : List ℕ) (e i : ℕ) (h : recordThere m e i ≡ true) where
     there-inside =
         let f : FolderRight m = accepted-asks (folder-asks m) .0 (accepted-is _ (parts .0)) in
         let w = record-within (recordSize m e) (length (body m e)) i (ltb-true i _ (parts .1 .1)) in
-        rw (p, q) (omega (arith, w, body-short m e, f .contents e there-body .ends))
+        rw (p, q) (omega (arith, w, body-said m e, f .contents e there-body .ends))
 
     pub there-start : start + size * i ≡ viewStart m e i
     unfolding viewStart

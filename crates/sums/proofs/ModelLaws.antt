@@ -12,7 +12,8 @@ use Rattle.mdp.specs.Sums.{greatest}
 use Rattle.mdp.specs.Graph.{along}
 use Rattle.mdp.proofs.SumLaws.{sum-eq, weighed, greatest-below}
 use Rattle.folder.specs.Fields.{u16}
-use Rattle.folder.specs.Contents.{body, countOf, field}
+use Rattle.folder.specs.Contents.{body, field}
+use Rattle.folder.proofs.ContentsLaws.{record-whole}
 use Rattle.model.specs.Model.{Model, modelOf, firstRecord}
 use Rattle.model.specs.Chances.{mdp}
 use Rattle.model.specs.Valid as Models
@@ -31,11 +32,6 @@ after-is m eb k (suc j) = rw (after-is m eb k j) refl
 
 pub greatest-eq : (n : ℕ) (f g : (i : ℕ) → i < n → ℕ) → ((i : ℕ) (h : i < n) → f i h ≡ g i h) → greatest n f ≡ greatest n g
 greatest-eq n f g h = ap (greatest n) (λ i j l. h j l i)
-
--- Records of 4 bytes each.
-four-bytes : (b : List ℕ) (c : ℕ) → c < countOf 4 b → 4 * c + 4 ≤ length b
-unfolding countOf
-four-bytes b c l = omega arith
 
 module _ (m g : List ℕ) where
   abbrev M : Model
@@ -89,7 +85,7 @@ module _ (m g : List ℕ) where
       pub edge-ready : (nodes : ℕ) → G .nodes ≤ nodes → EdgeReady (body m 3) (body g 1) weights firsts nodes spot
       edge-ready nodes l = record {
         command = omega (arith, E .command, T .firsts-long);
-        listed = four-bytes (body m 3) command (E .command);
+        listed = record-whole 4 (body m 3) command (E .command);
         fits = rw (T .placed command (E .command)) (record {
           few = R .commands command (E .command) .few;
           records = ends;

@@ -5,7 +5,6 @@ ghost use mathlib.Core.Path.{_≡_};
 ghost use Prim.Native.Nat.{_+_, _*_, _<_, _≤_, _^_, max};
 ghost use lib.ListN.{length};
 ghost use Rattle.mdp.specs.Sums.{roundedUp};
-ghost use Rattle.folder.specs.Fields.{u16};
 ghost use Rattle.folder.specs.Contents.{field, countOf};
 ghost use Rattle.folder.specs.Tab.{fill};
 ghost use Rattle.model.specs.Limits.{mostRecords, mostCommands};
@@ -17,20 +16,6 @@ ghost use Rattle.sums.specs.Tables.{Tables, weightIn, firstIn, Light, fi
 
 // Certainty.
 const UNITS: u32 = 1000000000;
-
-fn pair(low: u8, high: u8) -> usize
-    ensures { λ r. ⌜ (r ≡ low + high * 256) × (r < 65536) ⌝ }
-{
-    (low as usize) + (high as usize) * 256
-}
-
-// The 2-byte field at k, which the slice has whole.
-fn u16_in(s: &[u8], k: usize) -> usize
-    requires { ⌜ k + 1 < length (now s) ⌝ }
-    ensures { λ r. ⌜ (r ≡ u16 (now (s .entry)) k) × (r < 65536) ⌝ }
-{
-    pair(s[k], s[k + 1])
-}
 
 fn times(weight: usize, x: u32) -> usize
     requires { ⌜ weight < 65536 ⌝ }
@@ -54,7 +39,7 @@ pub fn edge_sum(
     let mut acc = 0;
     let mut b = 0;
     while b < count {
-        let to = u16_in(eb, at + 2 + 2 * b);
+        let to = folder::u16_in(eb, at + 2 + 2 * b);
         acc += times(weights[first + b], row[to]);
         b += 1;
     }
@@ -72,7 +57,7 @@ fn branches_of(cs: &[u8], c: usize) -> usize
     requires { ⌜ 4 * c + 4 ≤ length (now cs) ⌝ }
     ensures { λ r. ⌜ (r ≡ field 4 (now (cs .entry)) c 1) × (r < 65536) ⌝ }
 {
-    u16_in(cs, 4 * c + 2)
+    folder::u16_in(cs, 4 * c + 2)
 }
 
 // Of a node's edges: the greatest sum, or 0, and where the next node's edges start.
@@ -98,7 +83,7 @@ pub fn best_of(
     let mut k = at;
     let mut e = 0;
     while e < count {
-        let c = u16_in(eb, k);
+        let c = folder::u16_in(eb, k);
         let branches = branches_of(cs, c);
         let sum = edge_sum(weights, row, eb, firsts[c], branches, k);
         best = larger(best, sum);

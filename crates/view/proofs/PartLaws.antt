@@ -17,7 +17,7 @@ use Rattle.folder.proofs.Decides.{and-both}
 use Rattle.model.specs.Layout.{bodies}
 use Rattle.model.specs.Table.{folderRows}
 use Rattle.model.specs.View.{isAccepted}
-use Rattle.model.proofs.ViewLaws.{record-within}
+use Rattle.folder.proofs.ContentsLaws.{record-within}
 use Rattle.view.specs.Starts.{startsOf, startIn, bytesIn, sizeIn, isIn, placeIn, lengthIn, partIn}
 
 -- The starts that the code reads from the contents.

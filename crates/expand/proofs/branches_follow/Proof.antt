@@ -1,5 +1,6 @@
 use Prim.Native.Nat.{_+_, _*_, _-_}
 use mathlib.Core.Path.{ap, _∙_}
+use native.Mathlib.Omega.{arith}
 use borrow.Author.Needs.{needs}
 use Rattle.folder.specs.Fields.{u16}
 use Rattle.folder.proofs.ScanLaws.{Scanned, scan-start, scan-next, all-fails, all-pass}
@@ -16,6 +17,11 @@ abbrev μ-loop : tie.MeasureT-loop
 
 loop-holds : tie.Need-loop-holds Inv-loop μ-loop
 loop-holds c = scan-start _ _
+
+branch-follows-requires : tie.Need-branch-follows-requires Inv-loop μ-loop
+branch-follows-requires c κs =
+    let s = c .before .before .before .before .before .before .before in
+    ((s .pre .0 .0, omega arith, omega arith), (rw (c .u16-at .ensures .0) (s .pre .1 .0 .each _ (c .before .loop-test .taken)), s .pre .1 .1))
 
 loop-again : tie.Need-loop-again Inv-loop μ-loop
 loop-again c =
@@ -46,7 +52,7 @@ branches-follow-spec =
     (λ c. search needs)
     (λ c κs. search needs)
     (λ c. search needs)
-    (λ c κs. search needs)
+    branch-follows-requires
     (λ c. search needs)
     (λ c. search needs)
     loop-again

@@ -12,7 +12,7 @@ use Rattle.graph.specs.Simulation.{edgeAt, simulationOf}
 use Rattle.graph.specs.Rules.{edgeFollows}
 use Rattle.graph.proofs.EdgePlaces.{place-start, place-over}
 use Rattle.expand.proofs.Sizes.{cursor-small}
-use Rattle.expand.proofs.FollowLaws.{EdgeRead, Held, next-stands, first-there, records-fit, edge-tested}
+use Rattle.expand.proofs.FollowLaws.{EdgeRead, Held, next-stands, first-there, all-lead, records-fit, edge-tested}
 use Rattle.expand.proofs.edges_follow.Statement.{statement}
 use Rattle.expand.proofs.edges_follow.Tie as tie
 
@@ -65,8 +65,10 @@ shared-slice-read-first c = let s = start (loop-of (c .before)) in first-there (
 branches-follow-requires : tie.Need-branches-follow-requires Inv-loop μ-loop
 branches-follow-requires c κs =
     let l = loop-of (c .before) in
-    let s = start l in
-    (l .before .before .before .before .before .before .variable-count .ensures .1, records-fit (s .pre .0) (read (c .before)) (s .pre .1 .1 .0), omega (arith, cursor l))
+    let s = start l in (
+      (l .before .before .before .before .before .before .variable-count .ensures .1, records-fit (s .pre .0) (read (c .before)) (s .pre .1 .1 .0), omega (arith, cursor l)),
+      (all-lead (s .pre .0) (read (c .before)) (s .pre .1 .1 .0) (held l), s .pre .1 .1 .1 .1 .1),
+    )
 
 add-p-2 : tie.Need-add-p-2 Inv-loop μ-loop
 add-p-2 c = let f = c .before .before .before in omega (arith, cursor (loop-of f), f .field .ensures .1)
@@ -77,7 +79,7 @@ loop-again c =
     let l = loop-of f in
     let s = start l in (
       scan-next (l .loop .inv .0) (f .before .before .loop-test .taken)
-          (edge-tested (s .pre .0) (read f) (s .pre .1 .1 .0) (s .pre .1 .1 .1 .0) (s .pre .1 .1 .1 .1) (held l) (c .before .branches-follow .ensures)) (c .if1 .taken),
+          (edge-tested (s .pre .0) (read f) (s .pre .1 .1 .0) (s .pre .1 .1 .1 .0) (s .pre .1 .1 .1 .1 .0) (held l) (c .before .branches-follow .ensures)) (c .if1 .taken),
       next-stands (s .pre .0) (read f),
     )
 
@@ -87,7 +89,7 @@ returns c =
     let l = loop-of f in
     let s = start l in (
       all-fails (l .loop .inv .0) (f .before .before .loop-test .taken)
-          (edge-tested (s .pre .0) (read f) (s .pre .1 .1 .0) (s .pre .1 .1 .1 .0) (s .pre .1 .1 .1 .1) (held l) (c .before .branches-follow .ensures)) (c .if1 .left)
+          (edge-tested (s .pre .0) (read f) (s .pre .1 .1 .0) (s .pre .1 .1 .1 .0) (s .pre .1 .1 .1 .1 .0) (held l) (c .before .branches-follow .ensures)) (c .if1 .left)
           ∙ ap (all _) (l .before .node-field .ensures .0),
       λ h. absurd (false≢true h),
     )

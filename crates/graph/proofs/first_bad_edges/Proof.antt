@@ -6,7 +6,7 @@ use native.Mathlib.Omega.{arith}
 use borrow.Author.Needs.{needs}
 use Rattle.model.specs.Model.{modelOf}
 use Rattle.graph.specs.Simulation.{nodeField}
-use Rattle.graph.proofs.Limits.{body-short}
+use Rattle.folder.proofs.ContentsLaws.{body-short}
 use Rattle.graph.proofs.NodeLaws.{node-field}
 use Rattle.graph.proofs.EdgeLaws.{Reached, reach-start, reach-found, reach-next, reach-over, reach-left}
 use Rattle.graph.proofs.first_bad_edges.Statement.{statement}

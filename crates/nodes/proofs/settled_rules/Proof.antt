@@ -27,7 +27,7 @@ returns-2 c = (rule-breaks (past1 (c .before .before .before .before)) (c .befor
 
 b2-requires : tie.Need-b2-requires
 b2-requires c κs = let s = c .before .before .before .before .before .before .before .before .before .before .before .before .before .before .before .before .before .before .before .before .before .before .before .before in
-    (s .pre .0, (s .pre .1 .1 .0, (s .pre .1 .1 .1, (c .before .before .before .before .before .before .before .before .before .before .before .before .before .before .before .before .before .before .settle-label .ensures, c .before .before .before .before .before .settle-state .ensures))))
+    (s .pre .0, (s .pre .1 .1 .0, (s .pre .1 .1 .1, (c .before .before .before .before .before .before .before .before .before .before .before .before .before .before .before .before .before .before .settle-label .ensures, (c .before .before .before .before .before .settle-state .ensures, (search needs, search needs, search needs))))))
 
 returns-3 : tie.Need-returns-3
 returns-3 c =
