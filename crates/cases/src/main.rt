@@ -1,12 +1,247 @@
-// Runs the library on document 01's example and its cases, and on folders that break each row of its table.
-mod damaged;
-mod printed;
+// Runs the library on a script of cases, a line each, that is read from standard input; the script's head says what the
+// lines are.
+use clamped::add;
+use clamped::byte;
+use graph::GraphAnswer;
+use samples::build::asked;
+use samples::build::change;
+use samples::build::due;
+use samples::build::find;
+use samples::build::fold;
+use samples::build::fold_from;
+use samples::build::head;
+use samples::build::holds;
+use samples::build::tail;
+use solver::ZERO;
+use tally::PLACE;
+use tally::WRONG;
+use tally::close_group;
+use tally::hold;
+use tally::judge;
+use tally::outcome_of;
+use tally::say;
+use witness::box_steps;
+use witness::step_case;
+
+// The graph stands in the room after a model of any length and one byte more.
+const GRAPH: usize = 40001;
+
+// How long the model and the graph in the room are.
+struct Folders {
+    model: usize,
+    graph: usize,
+}
+
+fn wide(x: u32) -> usize {
+    x as usize
+}
+
+fn unit(s: &[u32], k: usize) -> usize {
+    if k < s.len() { wide(s[k]) } else { 0 }
+}
+
+fn units(s: &mut [u32], n: usize) -> &mut [u32] {
+    if n <= s.len() { &mut s[0..n] } else { s }
+}
+
+// Whether a row holds nothing but nines.
+fn untouched(s: &[u32]) -> bool {
+    let mut i = 0;
+    while i < s.len() {
+        if s[i] != 9 {
+            return false;
+        }
+        i += 1;
+    }
+    true
+}
+
+// Whether a row holds these figures.
+fn has(row: &[u32], v: &[usize; 32]) -> bool {
+    let mut i = 0;
+    while i < 31 {
+        if unit(row, i) != v[i] {
+            return false;
+        }
+        i += 1;
+    }
+    row.len() == v[31]
+}
+
+// By the call that writes nothing, and by the one that writes: refused, both rows stay as they are.
+fn on_rows(
+    t: &mut [usize; 40],
+    m: &[u8],
+    g: &[u8],
+    h: usize,
+    first: &mut [u32],
+    second: &mut [u32],
+    d: &[usize; 32],
+) {
+    let told = laguipy::figure_refusal(m, g, h, first, second);
+    judge(t, told, d[0], d[1]);
+    let made = laguipy::figure_rows(m, g, h, first, second);
+    judge(t, made, d[0], d[1]);
+    let same = untouched(first) & untouched(second);
+    hold(t, (d[0] == 0) | same, h, 0);
+}
+
+fn figure_case(t: &mut [usize; 40], m: &[u8], g: &[u8], a: &[usize; 32], d: &[usize; 32]) {
+    let mut first = [9u32; 4096];
+    let mut second = [9u32; 4096];
+    on_rows(
+        t,
+        m,
+        g,
+        a[0],
+        units(&mut first, a[1]),
+        units(&mut second, a[2]),
+        d,
+    );
+}
+
+fn row_case(t: &mut [usize; 40], m: &[u8], g: &[u8], h: usize, d: &[usize; 32]) {
+    let mut first = [9u32; 8];
+    let mut second = [9u32; 8];
+    let row = laguipy::figure(m, g, h, &mut first, &mut second);
+    hold(t, has(row, d), row.len(), h);
+}
+
+fn summary_case(t: &mut [usize; 40], m: &[u8], g: &[u8], d: &[usize; 32]) {
+    let a = laguipy::graph_check(m, g);
+    match a {
+        GraphAnswer::Accepted(s) => {
+            let nodes = (s.expanded == d[1]) & (s.covered == d[2]) & (s.target == d[3]);
+            let rest = (s.root == d[0]) & (s.waiting == d[4]);
+            hold(t, nodes & rest, s.root, s.expanded)
+        }
+        GraphAnswer::Refused(f) => hold(t, false, f.number, f.place),
+    }
+}
+
+// By the plain call and by the struct.
+fn record_case(t: &mut [usize; 40], m: &[u8], e: usize, i: usize, d: &[usize; 32]) {
+    let plain = holds(laguipy::record_part(m, e, i), d);
+    let held = holds(view::record_of(m, e, i), d);
+    hold(t, plain & held, e, i);
+}
+
+// Lines whose answer is no refusal.
+fn value_case(
+    t: &mut [usize; 40],
+    m: &[u8],
+    g: &[u8],
+    kind: usize,
+    a: &[usize; 32],
+    d: &[usize; 32],
+) {
+    match kind {
+        114 => row_case(t, m, g, a[0], d),
+        99 => summary_case(t, m, g, d),
+        108 => hold(t, (m.len() == d[0]) & (g.len() == d[1]), m.len(), g.len()),
+        118 => record_case(t, m, a[1], a[2], d),
+        _ => hold(t, false, kind, 0),
+    }
+}
+
+fn asked_case(
+    t: &mut [usize; 40],
+    room: &[u8],
+    f: Folders,
+    kind: usize,
+    a: &[usize; 32],
+    d: &[usize; 32],
+) {
+    let m = head(room, f.model);
+    let g = head(tail(room, GRAPH), f.graph);
+    match kind {
+        109 | 122 => judge(t, laguipy::model_check(m), d[0], d[1]),
+        103 | 90 => judge(t, outcome_of(laguipy::graph_check(m, g)), d[0], d[1]),
+        102 => figure_case(t, m, g, a, d),
+        115 => step_case(t, m, &[ZERO; 16], a[1], a[0], a[2], a[3]),
+        98 => box_steps(t, m),
+        _ => value_case(t, m, g, kind, a, d),
+    }
+}
+
+// The folders that a line asks about: some name a length.
+fn named(f: Folders, kind: usize, length: usize) -> Folders {
+    match kind {
+        122 | 118 => Folders {
+            model: length,
+            graph: f.graph,
+        },
+        90 => Folders {
+            model: f.model,
+            graph: length,
+        },
+        _ => f,
+    }
+}
+
+// The changes that a line names are made for it, and then undone.
+fn case(t: &mut [usize; 40], room: &mut [u8], f: Folders, kind: usize, body: &[u8]) {
+    let a = asked(body);
+    let d = due(body);
+    let base = if kind == 109 { 0 } else { GRAPH };
+    let from = match kind {
+        109 | 103 => 0,
+        102 => 3,
+        _ => 31,
+    };
+    let saved = change(room, base, from, &a);
+    asked_case(t, room, named(f, kind, a[0]), kind, &a, &d);
+    change(room, base, from, &saved);
+}
+
+// A line, with its end; the folders after it.
+fn line(t: &mut [usize; 40], room: &mut [u8], f: Folders, text: &[u8]) -> Folders {
+    let body = tail(head(text, find(text, 0, b';')), 2);
+    let mut after = f;
+    let kind = byte(text, 0);
+    match kind {
+        0 | 10 | 35 => (),
+        61 => close_group(t, body),
+        77 => after.model = fold(room, 5, body),
+        71 => after.graph = fold_from(room, GRAPH, 2, body),
+        _ => case(t, room, f, kind, body),
+    }
+    after
+}
+
+fn tell(wrong: bool, text: &[u8]) {
+    if wrong {
+        say(text);
+    }
+}
+
+fn run(t: &mut [usize; 40], room: &mut [u8], script: &[u8]) {
+    let mut f = Folders { model: 0, graph: 0 };
+    let mut at = 0;
+    let mut i = 0;
+    while i < script.len() {
+        t[PLACE] = i + 1;
+        let before = t[WRONG];
+        let next = add(find(script, at, b'\n'), 1);
+        let text = tail(head(script, next), at);
+        f = line(t, room, f, text);
+        tell(t[WRONG] != before, text);
+        at = next;
+        i += 1;
+    }
+}
+
+// A script that fills its room may have been cut.
+fn start(t: &mut [usize; 40], room: &mut [u8; 1088578], script: &mut [u8; 65536]) {
+    let n = io::read_full(0, script);
+    hold(t, n < 65536, n, 0);
+    run(t, room, head(script, n));
+}
 
 fn main() {
     let mut t = [0; 40];
-    let mut m = [0; 192];
-    let mut g = [0; 192];
-    printed::all(&mut t, &mut m, &mut g);
-    damaged::all(&mut t, &mut m, &mut g);
+    let mut room = [0; 1088578];
+    let mut script = [0; 65536];
+    start(&mut t, &mut room, &mut script);
     tally::say_table(&t);
 }

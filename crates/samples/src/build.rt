@@ -2,8 +2,12 @@
 use clamped::add;
 use clamped::byte;
 use clamped::field;
+use clamped::long;
 use clamped::mul;
 use clamped::sub;
+
+// More characters than any text is read for.
+const MOST: usize = 4000000;
 
 fn low_byte(v: usize) -> u8 {
     (v % 256) as u8
@@ -15,45 +19,26 @@ pub fn set(out: &mut [u8], k: usize, v: usize) {
     }
 }
 
-// A field at `at`; the position after it.
-pub fn put16(out: &mut [u8], at: usize, v: usize) -> usize {
+pub fn put16(out: &mut [u8], at: usize, v: usize) {
     set(out, at, v);
     set(out, add(at, 1), v / 256);
-    add(at, 2)
 }
 
-pub fn put32(out: &mut [u8], at: usize, v: usize) -> usize {
+pub fn put32(out: &mut [u8], at: usize, v: usize) {
     put16(out, at, v);
     put16(out, add(at, 2), v / 65536);
-    add(at, 4)
-}
-
-// Entry e of the contents: a body from start to end.
-pub fn contents(out: &mut [u8], e: usize, start: usize, end: usize) {
-    put32(out, mul(8, e), start);
-    put32(out, add(mul(8, e), 4), sub(end, start));
-}
-
-pub fn clear(out: &mut [u8]) {
-    let mut i = 0;
-    while i < out.len() {
-        set(out, i, 0);
-        i += 1;
-    }
 }
 
 pub fn head(s: &[u8], n: usize) -> &[u8] {
     if n <= s.len() { &s[0..n] } else { s }
 }
 
-// The bytes from a to e, or none.
-pub fn between(s: &[u8], a: usize, e: usize) -> &[u8] {
-    if e <= s.len() {
-        if a <= e {
-            return &s[a..e];
-        }
-    }
-    &s[..0]
+pub fn tail(s: &[u8], from: usize) -> &[u8] {
+    if from <= s.len() { &s[from..] } else { &s[..0] }
+}
+
+fn tail_mut(s: &mut [u8], from: usize) -> &mut [u8] {
+    if from <= s.len() { &mut s[from..] } else { s }
 }
 
 // The first c from `from` on, or the end.
@@ -68,129 +53,212 @@ pub fn find(s: &[u8], from: usize, c: u8) -> usize {
     s.len()
 }
 
-// The record from start to end, n times in all, for n from 1 on; the position after the last. For 0 it is the start.
-pub fn repeated(out: &mut [u8], start: usize, end: usize, n: usize) -> usize {
-    let count = mul(sub(end, start), sub(n, 1));
-    let mut i = 0;
-    while i < count {
-        let b = byte(out, add(start, i));
-        set(out, add(end, i), b);
-        i += 1;
-    }
-    add(start, mul(sub(end, start), n))
-}
-
-// The pairs of an offset and a value in n fields of a line, from byte `from` on, written.
-pub fn change(out: &mut [u8], line: &[u8], from: usize, n: usize) {
-    let mut i = 0;
-    while i < n / 2 {
-        let at = add(from, mul(4, i));
-        put16(out, field(line, at), field(line, add(at, 2)));
-        i += 1;
-    }
-}
-
-// Where writing stands: the next byte, the body's start and entry, and the number that is being read.
+// Where reading and writing stand: the next character, the next byte, the body's start and entry, the bytes of a plain
+// number, the number that is being read and its mark (0 before it starts), and of the group and the one around it where
+// it starts and how often it is still to be read.
 struct Pen {
+    read: usize,
     at: usize,
     start: usize,
     entry: usize,
+    size: usize,
     value: usize,
-    begun: bool,
-    negative: bool,
-    wide: bool,
+    mark: usize,
+    group: usize,
+    left: usize,
+    outer: usize,
+    outer_left: usize,
 }
 
-fn pen_at(at: usize, entry: usize) -> Pen {
+fn pen_at(at: usize, size: usize) -> Pen {
     Pen {
+        read: 0,
         at,
         start: at,
-        entry,
+        entry: 0,
+        size,
         value: 0,
-        begun: false,
-        negative: false,
-        wide: false,
+        mark: 0,
+        group: 0,
+        left: 0,
+        outer: 0,
+        outer_left: 0,
     }
 }
 
-fn put_number(out: &mut [u8], at: usize, v: usize, wide: bool) -> usize {
-    if wide {
-        put32(out, at, v)
-    } else {
-        put16(out, at, v)
+// What the number that was read stands for.
+fn meant(p: Pen) -> usize {
+    let mark = p.mark;
+    match mark {
+        45 => sub(65536, p.value),
+        126 => sub(sub(p.at, p.start) / 8, p.value),
+        _ => p.value,
     }
 }
 
-// The number that was begun, written.
+// The number that was begun, written. A later one covers what a short one writes too much.
 fn end_number(out: &mut [u8], p: Pen) -> Pen {
-    if !p.begun {
+    if p.mark == 0 {
         return p;
     }
-    let v = if p.negative {
-        sub(65536, p.value)
-    } else {
-        p.value
-    };
-    let at = put_number(out, p.at, v, p.wide);
-    let mut q = pen_at(at, p.entry);
-    q.start = p.start;
+    put32(out, p.at, meant(p));
+    let mut q = p;
+    q.at = add(p.at, if p.mark == 35 { 4 } else { p.size });
+    q.value = 0;
+    q.mark = 0;
     q
 }
 
 fn end_body(out: &mut [u8], p: Pen) -> Pen {
-    let q = end_number(out, p);
-    contents(out, q.entry, q.start, q.at);
-    pen_at(q.at, add(q.entry, 1))
+    let mut q = end_number(out, p);
+    let place = mul(8, q.entry);
+    put32(out, place, q.start);
+    put32(out, add(place, 4), sub(q.at, q.start));
+    q.start = q.at;
+    q.entry = add(q.entry, 1);
+    q
 }
 
-fn digit_of(c: u8) -> usize {
-    sub(c as usize, 48)
-}
-
-// One character: a digit, `-` before a number, `#` before one of 4 bytes, `|` between bodies; others end a number.
-fn written_one(out: &mut [u8], p: Pen, c: u8) -> Pen {
+// The number before the bracket says how often.
+fn open_group(p: Pen) -> Pen {
     let mut q = p;
-    if (48 <= c) & (c < 58) {
-        q.value = add(mul(p.value, 10), digit_of(c));
-        q.begun = true;
-        return q;
+    q.outer = p.group;
+    q.outer_left = p.left;
+    q.group = p.read;
+    q.left = p.value;
+    q.value = 0;
+    q.mark = 0;
+    q
+}
+
+fn close_group(p: Pen) -> Pen {
+    let mut q = p;
+    if 1 < p.left {
+        q.left = p.left - 1;
+        q.read = p.group;
+    } else {
+        q.group = p.outer;
+        q.left = p.outer_left;
     }
-    if c == b'-' {
-        q.negative = true;
-        return q;
+    q
+}
+
+fn digit(p: Pen, c: usize) -> Pen {
+    let mut q = p;
+    q.value = add(mul(p.value, 10), sub(c, 48));
+    if p.mark == 0 {
+        q.mark = 1;
     }
-    if c == b'#' {
-        q.wide = true;
-        return q;
+    q
+}
+
+fn marked(p: Pen, c: usize) -> Pen {
+    let mut q = p;
+    q.mark = c;
+    q
+}
+
+// One character: a digit; `-`, `~` or `#` before a number; `[` after one, and `]`; `|` between bodies. Others end a
+// number.
+fn written_one(out: &mut [u8], p: Pen, c: usize) -> Pen {
+    match c {
+        48..=57 => digit(p, c),
+        35 | 45 | 126 => marked(p, c),
+        91 => open_group(p),
+        93 => close_group(end_number(out, p)),
+        124 => end_body(out, p),
+        _ => end_number(out, p),
     }
-    if c == b'|' {
-        return end_body(out, p);
-    }
-    end_number(out, p)
 }
 
 fn written(out: &mut [u8], p: Pen, text: &[u8]) -> Pen {
     let mut q = p;
     let mut i = 0;
-    while i < text.len() {
-        q = written_one(out, q, text[i]);
+    while i < MOST {
+        if text.len() <= q.read {
+            return q;
+        }
+        let c = byte(text, q.read);
+        q.read = add(q.read, 1);
+        q = written_one(out, q, c);
         i += 1;
     }
     q
 }
 
-// The numbers of a text as fields, from `at` on; the position after them.
-pub fn fields(out: &mut [u8], at: usize, text: &[u8]) -> usize {
-    let p = written(out, pen_at(at, 0), text);
-    let q = end_number(out, p);
+// A folder of k bodies; its length.
+pub fn fold(out: &mut [u8], k: usize, text: &[u8]) -> usize {
+    let p = written(out, pen_at(mul(8, k), 2), text);
+    let q = end_body(out, p);
     q.at
 }
 
-// A folder of k bodies; its length.
-pub fn fold(out: &mut [u8], k: usize, text: &[u8]) -> usize {
-    let p = written(out, pen_at(mul(8, k), 0), text);
-    let q = end_body(out, p);
-    q.at
+// The same from a place in the buffer on.
+pub fn fold_from(out: &mut [u8], from: usize, k: usize, text: &[u8]) -> usize {
+    fold(tail_mut(out, from), k, text)
+}
+
+// n numbers of 4 bytes each, and last how many there are.
+fn spread(s: &[u8; 128], n: usize) -> [usize; 32] {
+    let mut v = [n; 32];
+    let mut i = 0;
+    while i < 31 {
+        v[i] = long(s, 4 * i);
+        i += 1;
+    }
+    v
+}
+
+// Up to 31 numbers of a text, and last how many there are.
+fn numbers(text: &[u8]) -> [usize; 32] {
+    let mut s = [0u8; 128];
+    let p = written(&mut s, pen_at(0, 4), text);
+    let q = end_number(&mut s, p);
+    spread(&s, q.at / 4)
+}
+
+// The numbers before the colon, and those after it.
+pub fn asked(text: &[u8]) -> [usize; 32] {
+    numbers(head(text, find(text, 0, 58)))
+}
+
+pub fn due(text: &[u8]) -> [usize; 32] {
+    numbers(tail(text, find(text, 0, 58)))
+}
+
+// Whether a part holds these bytes.
+pub fn holds(part: &[u8], v: &[usize; 32]) -> bool {
+    let mut i = 0;
+    while i < 31 {
+        if byte(part, i) != v[i] {
+            return false;
+        }
+        i += 1;
+    }
+    part.len() == v[31]
+}
+
+// The field at k gets the value v, if it is to; what is to be put back.
+fn exchanged(out: &mut [u8], k: usize, v: usize, on: bool) -> usize {
+    if !on {
+        return v;
+    }
+    let old = field(out, k);
+    put16(out, k, v);
+    old
+}
+
+// The pairs of an offset after `base` and a value, from number `from` on, written. Done again with what it hands back, it
+// is undone.
+pub fn change(out: &mut [u8], base: usize, from: usize, pairs: &[usize; 32]) -> [usize; 32] {
+    let mut v = *pairs;
+    let mut i = from;
+    while i < 30 {
+        let k = add(base, v[i]);
+        v[i + 1] = exchanged(out, k, v[i + 1], i < v[31]);
+        i += 2;
+    }
+    v
 }
 
 // Document 01's pedal example.

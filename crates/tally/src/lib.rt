@@ -1,7 +1,7 @@
 // The tally of a run: at 0 to 33 how often each answer was seen, by its number (0 for acceptance); after them the cases
 // of the group that is being run, and of all groups the wrong ones, the steps compared with the solver's, the bounds
-// tried and those whose numbers are past 64 bits; last the varied folder that is being tried, or 0. What is wrong is
-// named as it is found. Safe and ending on any arguments; its contracts say no more.
+// tried and those whose numbers are past 64 bits; last where the run is, by a line of the script or a varied folder.
+// What is wrong is told as it is found. Safe and ending on any arguments; its contracts say no more.
 use clamped::add;
 use folder::Outcome;
 use graph::GraphAnswer;
@@ -16,18 +16,14 @@ pub const BOUNDS: usize = 37;
 
 pub const TOO_BIG: usize = 38;
 
-const FOLDER: usize = 39;
+pub const PLACE: usize = 39;
 
 pub fn say(text: &[u8]) {
     io::write_all(1, text);
 }
 
-pub fn say_number(n: usize) {
+fn say_number(n: usize) {
     io::print_decimal(1, n as u64);
-}
-
-pub fn counted(t: &[usize; 40], k: usize) -> usize {
-    if k < 40 { t[k] } else { 0 }
 }
 
 pub fn count(t: &mut [usize; 40], k: usize) {
@@ -57,102 +53,71 @@ pub fn outcome_of(a: GraphAnswer) -> Outcome {
     }
 }
 
-fn say_answer(number: usize, place: usize) {
-    say(b" ");
-    say_number(number);
-    say(b" ");
-    say_number(place);
-}
-
-// The varied folder that the next cases are of.
-pub fn begin_folder(t: &mut [usize; 40], n: usize) {
-    t[FOLDER] = n;
-}
-
-fn end_wrong(n: usize) {
-    if n != 0 {
-        say(b" in varied folder ");
-        say_number(n);
-    }
-    say(b"\n");
-}
-
-// A case whose answer is due to be this number and place.
-pub fn judge(t: &mut [usize; 40], name: &[u8], o: Outcome, number: usize, place: usize) {
-    let n = number_of(o);
-    let p = place_of(o);
-    count(t, n);
-    count(t, CASES);
-    if (n == number) & (p == place) {
-        return;
-    }
-    count(t, WRONG);
-    say(b"wrong:");
-    say(name);
-    say_answer(n, p);
-    say(b" where due");
-    say_answer(number, place);
-    end_wrong(counted(t, FOLDER));
-}
-
-// A case that is due to hold; `at` says which of the name's cases it is.
-pub fn hold(t: &mut [usize; 40], name: &[u8], at: usize, ok: bool) {
+// A case that is due to hold; where it does not, the place in the run and two numbers that came are told.
+pub fn hold(t: &mut [usize; 40], ok: bool, first: usize, second: usize) {
     count(t, CASES);
     if ok {
         return;
     }
     count(t, WRONG);
-    say(b"wrong: ");
-    say(name);
+    say(b"wrong at ");
+    say_number(t[PLACE]);
+    say(b": ");
+    say_number(first);
     say(b" ");
-    say_number(at);
-    end_wrong(counted(t, FOLDER));
+    say_number(second);
+    say(b"\n");
+}
+
+// A case whose answer is due to be this number and place.
+pub fn judge(t: &mut [usize; 40], o: Outcome, number: usize, place: usize) {
+    let n = number_of(o);
+    let p = place_of(o);
+    count(t, n);
+    hold(t, (n == number) & (p == place), n, p);
 }
 
 // The line of a group, whose count starts anew.
 pub fn close_group(t: &mut [usize; 40], name: &[u8]) {
-    say(name);
-    say(b": ");
-    say_number(counted(t, CASES));
-    say(b" cases\n");
+    say_count(name, t[CASES]);
     t[CASES] = 0;
 }
 
 // A count that is not 0.
-fn say_count(t: &[usize; 40], name: &[u8], k: usize) {
-    if counted(t, k) == 0 {
+fn say_count(name: &[u8], n: usize) {
+    if n == 0 {
         return;
     }
     say(name);
     say(b": ");
-    say_number(counted(t, k));
+    say_number(n);
     say(b"\n");
 }
 
 // How often the refusal k was seen, if it was.
-fn say_seen(t: &[usize; 40], k: usize) {
-    if counted(t, k) == 0 {
+fn say_seen(k: usize, n: usize) {
+    if n == 0 {
         return;
     }
     say(b"refused ");
     say_number(k);
-    say_count(t, b"", k);
+    say_count(b"", n);
 }
 
 fn say_all_seen(t: &[usize; 40]) {
     let mut i = 1;
     while i < 34 {
-        say_seen(t, i);
+        say_seen(i, t[i]);
         i += 1;
     }
 }
 
 pub fn say_table(t: &[usize; 40]) {
-    say_count(t, b"steps compared with the solver's", STEPS);
-    say_count(t, b"bounds tried by the solver", BOUNDS);
-    say_count(t, b"bounds past 64 bits, not tried", TOO_BIG);
-    say_count(t, b"accepted", 0);
+    say_count(b"steps compared with the solver's", t[STEPS]);
+    say_count(b"bounds tried by the solver", t[BOUNDS]);
+    say_count(b"bounds past 64 bits, not tried", t[TOO_BIG]);
+    say_count(b"accepted", t[0]);
     say_all_seen(t);
-    say_number(counted(t, WRONG));
+    say_number(t[WRONG]);
     say(b" wrong\n");
 }

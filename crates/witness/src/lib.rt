@@ -53,6 +53,10 @@ fn first_values(s: &[i16], n: usize) -> &[i16] {
     if n <= s.len() { &s[0..n] } else { s }
 }
 
+fn first_room(s: &mut [i16], n: usize) -> &mut [i16] {
+    if n <= s.len() { &mut s[0..n] } else { s }
+}
+
 fn due_row(m: &[u8], s: &[usize; 16], c: usize, b: usize, accepted: bool) -> [i16; 16] {
     if accepted {
         row_of(&solver::next(m, s, c, b), solver::variables(m))
@@ -61,16 +65,25 @@ fn due_row(m: &[u8], s: &[usize; 16], c: usize, b: usize, accepted: bool) -> [i1
     }
 }
 
-// The step of the first n values of a state: the answer, the new state, and the rest of the row.
-pub fn step_case(t: &mut [usize; 40], m: &[u8], s: &[usize; 16], n: usize, c: usize, b: usize) {
-    let due = solver::step_verdict(m, s, n, 16, c, b);
+// The step of the first n values of a state into a row of `room` values: the answer, the new state, and the rest of the
+// row.
+pub fn step_case(
+    t: &mut [usize; 40],
+    m: &[u8],
+    s: &[usize; 16],
+    n: usize,
+    room: usize,
+    c: usize,
+    b: usize,
+) {
+    let due = solver::step_verdict(m, s, n, room, c, b);
     let state = row_of(s, 16);
     let mut row = [KEPT; 16];
-    let o = laguipy::step(m, first_values(&state, n), c, b, &mut row);
+    let o = laguipy::step(m, first_values(&state, n), c, b, first_room(&mut row, room));
     count(t, STEPS);
-    judge(t, b" step", o, due.number, due.place);
+    judge(t, o, due.number, due.place);
     let wanted = due_row(m, s, c, b, due.number == 0);
-    hold(t, b"state after a step", c, same_rows(&row, &wanted));
+    hold(t, same_rows(&row, &wanted), c, b);
 }
 
 // A state of the pedal model, at j of a box that goes one past each range.
@@ -85,16 +98,16 @@ fn box_state(j: usize) -> [usize; 16] {
 pub fn box_steps(t: &mut [usize; 40], m: &[u8]) {
     let mut j = 0;
     while j < 216 {
-        step_case(t, m, &box_state(j), 2, j / 24 % 3, j / 72);
+        step_case(t, m, &box_state(j), 2, 16, j / 24 % 3, j / 72);
         j += 1;
     }
 }
 
-fn bound_case(t: &mut [usize; 40], name: &[u8], h: usize, r: Trial) {
+fn bound_case(t: &mut [usize; 40], h: usize, r: Trial) {
     match r {
         Trial::TooBig => count(t, TOO_BIG),
         Trial::Holds => count(t, BOUNDS),
-        Trial::Broken => hold(t, name, h, false),
+        Trial::Broken => hold(t, false, h, 0),
     }
 }
 
@@ -106,13 +119,13 @@ fn figures_case(t: &mut [usize; 40], m: &[u8], g: &[u8], h: usize) {
     count(t, number_of(o));
     if number_of(o) == 0 {
         let row = laguipy::figure(m, g, h, &mut first, &mut second);
-        bound_case(t, b"figures within", h, solver::try_figures(m, g, h, row));
+        bound_case(t, h, solver::try_figures(m, g, h, row));
     }
 }
 
 fn both_bounds(t: &mut [usize; 40], m: &[u8], g: &[u8], h: usize) {
     figures_case(t, m, g, h);
-    bound_case(t, b"root within", h, solver::try_root(m, g, h));
+    bound_case(t, h, solver::try_root(m, g, h));
 }
 
 // Bounds on an accepted graph, within 0 to 4 steps.

@@ -6,10 +6,10 @@ use Rattle.samples.proofs.build.written.Statement.{statement}
 use Rattle.samples.proofs.build.written.Tie as tie
 
 abbrev Inv-loop : tie.InvT-loop
-Inv-loop out₀ text q₀ i₀ out q i = (i ≤ length text) × (length out ≡ length out₀)
+Inv-loop out₀ text q₀ i₀ out q i = (i ≤ 4000000) × (length out ≡ length out₀)
 
 abbrev μ-loop : tie.MeasureT-loop
-μ-loop out₀ text q₀ i₀ out q i = length text - i
+μ-loop out₀ text q₀ i₀ out q i = 4000000 - i
 
 pub written-spec : {M : Type 1} → statement M
 written-spec =
@@ -19,6 +19,9 @@ written-spec =
     μ-loop
     (λ c. search needs)
     (λ c. search needs)
+    (λ c. search needs)
+    (λ c κs. search needs)
+    (λ c κs. search needs)
     (λ c κs. search needs)
     (λ c. search needs)
     (λ c. search needs)

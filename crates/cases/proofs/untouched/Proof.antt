@@ -1,24 +1,25 @@
 use Prim.Native.Nat.{_≤_, _-_}
 use borrow.Author.Needs.{needs}
-use Rattle.varied.proofs.changed.models.Statement.{statement}
-use Rattle.varied.proofs.changed.models.Tie as tie
+use lib.ListN.{length}
+use Rattle.cases.proofs.untouched.Statement.{statement}
+use Rattle.cases.proofs.untouched.Tie as tie
 
 abbrev Inv-loop : tie.InvT-loop
-Inv-loop t₀ i₀ t i = i ≤ 712
+Inv-loop s i₀ i = i ≤ length s
 
 abbrev μ-loop : tie.MeasureT-loop
-μ-loop t₀ i₀ t i = 712 - i
+μ-loop s i₀ i = length s - i
 
-pub models-spec : {M : Type 1} → statement M
-models-spec =
+pub untouched-spec : {M : Type 1} → statement M
+untouched-spec =
     tie.close
     (tie.spec
     Inv-loop
     μ-loop
     (λ c. search needs)
     (λ c. search needs)
-    (λ c κs. search needs)
-    (λ c κs. search needs)
+    (λ c. search needs)
+    (λ c. search needs)
     (λ c. search needs)
     (λ c. search needs)
     (λ c. search needs)

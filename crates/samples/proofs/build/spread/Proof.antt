@@ -1,23 +1,23 @@
 use Prim.Native.Nat.{_≤_, _-_}
 use borrow.Author.Needs.{needs}
-use lib.ListN.{length}
-use Rattle.trials.proofs.figured.untouched.Statement.{statement}
-use Rattle.trials.proofs.figured.untouched.Tie as tie
+use Rattle.samples.proofs.build.spread.Statement.{statement}
+use Rattle.samples.proofs.build.spread.Tie as tie
 
 abbrev Inv-loop : tie.InvT-loop
-Inv-loop s i₀ i = i ≤ length s
+Inv-loop s n v₀ i₀ v i = i ≤ 31
 
 abbrev μ-loop : tie.MeasureT-loop
-μ-loop s i₀ i = length s - i
+μ-loop s n v₀ i₀ v i = 31 - i
 
-pub untouched-spec : {M : Type 1} → statement M
-untouched-spec =
+pub spread-spec : {M : Type 1} → statement M
+spread-spec =
     tie.close
     (tie.spec
     Inv-loop
     μ-loop
     (λ c. search needs)
     (λ c. search needs)
+    (λ c κs. search needs)
     (λ c. search needs)
     (λ c. search needs)
     (λ c. search needs)
