@@ -1,7 +1,7 @@
 // Runs the library on a script of cases, a line each, that is read from standard input; the script's head says what the
 // lines are.
 use clamped::add;
-use clamped::byte;
+use clamped::long;
 use graph::GraphAnswer;
 use samples::build::asked;
 use samples::build::change;
@@ -11,6 +11,7 @@ use samples::build::fold;
 use samples::build::fold_from;
 use samples::build::head;
 use samples::build::holds;
+use samples::build::letter;
 use samples::build::tail;
 use solver::ZERO;
 use tally::PLACE;
@@ -56,16 +57,16 @@ fn untouched(s: &[u32]) -> bool {
     true
 }
 
-// Whether a row holds these figures.
-fn has(row: &[u32], v: &[usize; 32]) -> bool {
+// The first figure of a row that is not as due; where only the lengths differ 31, and 32 where nothing does.
+fn unlike(row: &[u32], d: &[usize; 32]) -> usize {
     let mut i = 0;
     while i < 31 {
-        if unit(row, i) != v[i] {
-            return false;
+        if unit(row, i) != d[i] {
+            return i;
         }
         i += 1;
     }
-    row.len() == v[31]
+    if row.len() == d[31] { 32 } else { 31 }
 }
 
 // By the call that writes nothing, and by the one that writes: refused, both rows stay as they are.
@@ -104,7 +105,8 @@ fn row_case(t: &mut [usize; 40], m: &[u8], g: &[u8], h: usize, d: &[usize; 32]) 
     let mut first = [9u32; 8];
     let mut second = [9u32; 8];
     let row = laguipy::figure(m, g, h, &mut first, &mut second);
-    hold(t, has(row, d), row.len(), h);
+    let i = unlike(row, d);
+    hold(t, i == 32, i, unit(row, i));
 }
 
 fn summary_case(t: &mut [usize; 40], m: &[u8], g: &[u8], d: &[usize; 32]) {
@@ -121,26 +123,20 @@ fn summary_case(t: &mut [usize; 40], m: &[u8], g: &[u8], d: &[usize; 32]) {
 
 // By the plain call and by the struct.
 fn record_case(t: &mut [usize; 40], m: &[u8], e: usize, i: usize, d: &[usize; 32]) {
-    let plain = holds(laguipy::record_part(m, e, i), d);
-    let held = holds(view::record_of(m, e, i), d);
-    hold(t, plain & held, e, i);
+    let plain = laguipy::record_part(m, e, i);
+    let held = view::record_of(m, e, i);
+    let right = holds(plain, d) & holds(held, d);
+    hold(t, right, plain.len(), long(plain, 0));
 }
 
 // Lines whose answer is no refusal.
-fn value_case(
-    t: &mut [usize; 40],
-    m: &[u8],
-    g: &[u8],
-    kind: usize,
-    a: &[usize; 32],
-    d: &[usize; 32],
-) {
+fn value_case(t: &mut [usize; 40], m: &[u8], g: &[u8], kind: u8, a: &[usize; 32], d: &[usize; 32]) {
     match kind {
-        114 => row_case(t, m, g, a[0], d),
-        99 => summary_case(t, m, g, d),
-        108 => hold(t, (m.len() == d[0]) & (g.len() == d[1]), m.len(), g.len()),
-        118 => record_case(t, m, a[1], a[2], d),
-        _ => hold(t, false, kind, 0),
+        b'r' => row_case(t, m, g, a[0], d),
+        b'c' => summary_case(t, m, g, d),
+        b'l' => hold(t, (m.len() == d[0]) & (g.len() == d[1]), m.len(), g.len()),
+        b'v' => record_case(t, m, a[1], a[2], d),
+        _ => hold(t, false, 0, 0),
     }
 }
 
@@ -148,30 +144,30 @@ fn asked_case(
     t: &mut [usize; 40],
     room: &[u8],
     f: Folders,
-    kind: usize,
+    kind: u8,
     a: &[usize; 32],
     d: &[usize; 32],
 ) {
     let m = head(room, f.model);
     let g = head(tail(room, GRAPH), f.graph);
     match kind {
-        109 | 122 => judge(t, laguipy::model_check(m), d[0], d[1]),
-        103 | 90 => judge(t, outcome_of(laguipy::graph_check(m, g)), d[0], d[1]),
-        102 => figure_case(t, m, g, a, d),
-        115 => step_case(t, m, &[ZERO; 16], a[1], a[0], a[2], a[3]),
-        98 => box_steps(t, m),
+        b'm' | b'z' => judge(t, laguipy::model_check(m), d[0], d[1]),
+        b'g' | b'Z' => judge(t, outcome_of(laguipy::graph_check(m, g)), d[0], d[1]),
+        b'f' => figure_case(t, m, g, a, d),
+        b's' => step_case(t, m, &[ZERO; 16], a[1], a[0], a[2], a[3]),
+        b'b' => box_steps(t, m),
         _ => value_case(t, m, g, kind, a, d),
     }
 }
 
 // The folders that a line asks about: some name a length.
-fn named(f: Folders, kind: usize, length: usize) -> Folders {
+fn named(f: Folders, kind: u8, length: usize) -> Folders {
     match kind {
-        122 | 118 => Folders {
+        b'z' | b'v' => Folders {
             model: length,
             graph: f.graph,
         },
-        90 => Folders {
+        b'Z' => Folders {
             model: f.model,
             graph: length,
         },
@@ -180,13 +176,13 @@ fn named(f: Folders, kind: usize, length: usize) -> Folders {
 }
 
 // The changes that a line names are made for it, and then undone.
-fn case(t: &mut [usize; 40], room: &mut [u8], f: Folders, kind: usize, body: &[u8]) {
+fn case(t: &mut [usize; 40], room: &mut [u8], f: Folders, kind: u8, body: &[u8]) {
     let a = asked(body);
     let d = due(body);
-    let base = if kind == 109 { 0 } else { GRAPH };
+    let base = if kind == b'm' { 0 } else { GRAPH };
     let from = match kind {
-        109 | 103 => 0,
-        102 => 3,
+        b'm' | b'g' => 0,
+        b'f' => 3,
         _ => 31,
     };
     let saved = change(room, base, from, &a);
@@ -198,12 +194,12 @@ fn case(t: &mut [usize; 40], room: &mut [u8], f: Folders, kind: usize, body: &[u
 fn line(t: &mut [usize; 40], room: &mut [u8], f: Folders, text: &[u8]) -> Folders {
     let body = tail(head(text, find(text, 0, b';')), 2);
     let mut after = f;
-    let kind = byte(text, 0);
+    let kind = letter(text, 0);
     match kind {
-        0 | 10 | 35 => (),
-        61 => close_group(t, body),
-        77 => after.model = fold(room, 5, body),
-        71 => after.graph = fold_from(room, GRAPH, 2, body),
+        0 | b'\n' | b'#' => (),
+        b'=' => close_group(t, body),
+        b'M' => after.model = fold(room, 5, body),
+        b'G' => after.graph = fold_from(room, GRAPH, 2, body),
         _ => case(t, room, f, kind, body),
     }
     after
@@ -231,7 +227,7 @@ fn run(t: &mut [usize; 40], room: &mut [u8], script: &[u8]) {
     }
 }
 
-// A script that fills its room may have been cut.
+// A script that fills its room may have been cut: that is wrong, at line 0.
 fn start(t: &mut [usize; 40], room: &mut [u8; 1088578], script: &mut [u8; 65536]) {
     let n = io::read_full(0, script);
     hold(t, n < 65536, n, 0);

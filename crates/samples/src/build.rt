@@ -29,6 +29,11 @@ pub fn put32(out: &mut [u8], at: usize, v: usize) {
     put16(out, add(at, 2), v / 65536);
 }
 
+// The character at k, or 0.
+pub fn letter(s: &[u8], k: usize) -> u8 {
+    if k < s.len() { s[k] } else { 0 }
+}
+
 pub fn head(s: &[u8], n: usize) -> &[u8] {
     if n <= s.len() { &s[0..n] } else { s }
 }
@@ -63,7 +68,7 @@ struct Pen {
     entry: usize,
     size: usize,
     value: usize,
-    mark: usize,
+    mark: u8,
     group: usize,
     left: usize,
     outer: usize,
@@ -90,8 +95,8 @@ fn pen_at(at: usize, size: usize) -> Pen {
 fn meant(p: Pen) -> usize {
     let mark = p.mark;
     match mark {
-        45 => sub(65536, p.value),
-        126 => sub(sub(p.at, p.start) / 8, p.value),
+        b'-' => sub(65536, p.value),
+        b'~' => sub(sub(p.at, p.start) / 8, p.value),
         _ => p.value,
     }
 }
@@ -103,7 +108,7 @@ fn end_number(out: &mut [u8], p: Pen) -> Pen {
     }
     put32(out, p.at, meant(p));
     let mut q = p;
-    q.at = add(p.at, if p.mark == 35 { 4 } else { p.size });
+    q.at = add(p.at, if p.mark == b'#' { 4 } else { p.size });
     q.value = 0;
     q.mark = 0;
     q
@@ -143,16 +148,16 @@ fn close_group(p: Pen) -> Pen {
     q
 }
 
-fn digit(p: Pen, c: usize) -> Pen {
+fn digit(p: Pen, c: u8) -> Pen {
     let mut q = p;
-    q.value = add(mul(p.value, 10), sub(c, 48));
+    q.value = add(mul(p.value, 10), sub(c as usize, 48));
     if p.mark == 0 {
         q.mark = 1;
     }
     q
 }
 
-fn marked(p: Pen, c: usize) -> Pen {
+fn marked(p: Pen, c: u8) -> Pen {
     let mut q = p;
     q.mark = c;
     q
@@ -160,13 +165,13 @@ fn marked(p: Pen, c: usize) -> Pen {
 
 // One character: a digit; `-`, `~` or `#` before a number; `[` after one, and `]`; `|` between bodies. Others end a
 // number.
-fn written_one(out: &mut [u8], p: Pen, c: usize) -> Pen {
+fn written_one(out: &mut [u8], p: Pen, c: u8) -> Pen {
     match c {
-        48..=57 => digit(p, c),
-        35 | 45 | 126 => marked(p, c),
-        91 => open_group(p),
-        93 => close_group(end_number(out, p)),
-        124 => end_body(out, p),
+        b'0'..=b'9' => digit(p, c),
+        b'-' | b'~' | b'#' => marked(p, c),
+        b'[' => open_group(p),
+        b']' => close_group(end_number(out, p)),
+        b'|' => end_body(out, p),
         _ => end_number(out, p),
     }
 }
@@ -178,7 +183,7 @@ fn written(out: &mut [u8], p: Pen, text: &[u8]) -> Pen {
         if text.len() <= q.read {
             return q;
         }
-        let c = byte(text, q.read);
+        let c = letter(text, q.read);
         q.read = add(q.read, 1);
         q = written_one(out, q, c);
         i += 1;
@@ -186,7 +191,7 @@ fn written(out: &mut [u8], p: Pen, text: &[u8]) -> Pen {
     q
 }
 
-// A folder of k bodies; its length.
+// A folder of k bodies; its length. The head of the script of `cases` says how the text is read.
 pub fn fold(out: &mut [u8], k: usize, text: &[u8]) -> usize {
     let p = written(out, pen_at(mul(8, k), 2), text);
     let q = end_body(out, p);
@@ -219,11 +224,11 @@ fn numbers(text: &[u8]) -> [usize; 32] {
 
 // The numbers before the colon, and those after it.
 pub fn asked(text: &[u8]) -> [usize; 32] {
-    numbers(head(text, find(text, 0, 58)))
+    numbers(head(text, find(text, 0, b':')))
 }
 
 pub fn due(text: &[u8]) -> [usize; 32] {
-    numbers(tail(text, find(text, 0, 58)))
+    numbers(tail(text, find(text, 0, b':')))
 }
 
 // Whether a part holds these bytes.
