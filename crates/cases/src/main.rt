@@ -69,7 +69,13 @@ fn unlike(row: &[u32], d: &[usize; 32]) -> usize {
     if row.len() == d[31] { 32 } else { 31 }
 }
 
-// By the call that writes nothing, and by the one that writes: refused, both rows stay as they are.
+// Refused, a figure call leaves both rows as they are.
+fn kept(t: &mut [usize; 40], number: usize, first: &[u32], second: &[u32]) {
+    let same = untouched(first) & untouched(second);
+    hold(t, (number == 0) | same, number, 0);
+}
+
+// By the call that writes nothing, and by the one that writes.
 fn on_rows(
     t: &mut [usize; 40],
     m: &[u8],
@@ -80,11 +86,10 @@ fn on_rows(
     d: &[usize; 32],
 ) {
     let told = laguipy::figure_refusal(m, g, h, first, second);
-    judge(t, told, d[0], d[1]);
     let made = laguipy::figure_rows(m, g, h, first, second);
+    kept(t, d[0], first, second);
+    judge(t, told, d[0], d[1]);
     judge(t, made, d[0], d[1]);
-    let same = untouched(first) & untouched(second);
-    hold(t, (d[0] == 0) | same, h, 0);
 }
 
 fn figure_case(t: &mut [usize; 40], m: &[u8], g: &[u8], a: &[usize; 32], d: &[usize; 32]) {

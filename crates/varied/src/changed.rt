@@ -22,24 +22,29 @@ use tally::place_of;
 use witness::bounds;
 use witness::box_steps;
 
-// A model and a graph: steps where the model is accepted and they are asked for, bounds where the graph is; a refused
-// model refuses the graph.
-fn pair(t: &mut [usize; 40], m: &[u8], g: &[u8], steps: bool) {
-    let o = laguipy::model_check(m);
-    let a = outcome_of(laguipy::graph_check(m, g));
-    let n = number_of(a);
-    count(t, number_of(o));
-    if number_of(o) != 0 {
-        judge(t, a, number_of(o), place_of(o));
-        return;
-    }
+// An accepted model with a graph whose answer has the number n: steps where they are asked for, bounds where the graph is
+// accepted.
+fn accepted(t: &mut [usize; 40], m: &[u8], g: &[u8], n: usize, steps: bool) {
+    count(t, n);
+    hold(t, (n == 0) | (n > 11), n, 0);
     if steps {
         box_steps(t, m);
     }
-    count(t, n);
-    hold(t, (n == 0) | (n > 11), n, 0);
     if n == 0 {
         bounds(t, m, g);
+    }
+}
+
+// A model and a graph: a refused model refuses the graph.
+fn pair(t: &mut [usize; 40], m: &[u8], g: &[u8], steps: bool) {
+    let o = laguipy::model_check(m);
+    let a = outcome_of(laguipy::graph_check(m, g));
+    let n = number_of(o);
+    count(t, n);
+    if n == 0 {
+        accepted(t, m, g, number_of(a), steps);
+    } else {
+        judge(t, a, n, place_of(o));
     }
 }
 
