@@ -13,7 +13,6 @@ use samples::build::head;
 use samples::build::holds;
 use samples::build::letter;
 use samples::build::tail;
-use solver::ZERO;
 use tally::PLACE;
 use tally::WRONG;
 use tally::close_group;
@@ -22,7 +21,7 @@ use tally::judge;
 use tally::outcome_of;
 use tally::say;
 use witness::box_steps;
-use witness::step_case;
+use witness::zero_step;
 
 // The graph stands in the room after a model of any length and one byte more.
 const GRAPH: usize = 40001;
@@ -69,10 +68,10 @@ fn unlike(row: &[u32], d: &[usize; 32]) -> usize {
     if row.len() == d[31] { 32 } else { 31 }
 }
 
-// Refused, a figure call leaves both rows as they are.
+// A figure call leaves both rows as they are where it is refused, and only there.
 fn kept(t: &mut [usize; 40], number: usize, first: &[u32], second: &[u32]) {
     let same = untouched(first) & untouched(second);
-    hold(t, (number == 0) | same, number, 0);
+    hold(t, same == (number != 0), number, 0);
 }
 
 // By the call that writes nothing, and by the one that writes.
@@ -145,6 +144,10 @@ fn value_case(t: &mut [usize; 40], m: &[u8], g: &[u8], kind: u8, a: &[usize; 32]
     }
 }
 
+fn graph_case(t: &mut [usize; 40], m: &[u8], g: &[u8], number: usize, place: usize) {
+    judge(t, outcome_of(laguipy::graph_check(m, g)), number, place);
+}
+
 fn asked_case(
     t: &mut [usize; 40],
     room: &[u8],
@@ -157,9 +160,9 @@ fn asked_case(
     let g = head(tail(room, GRAPH), f.graph);
     match kind {
         b'm' | b'z' => judge(t, laguipy::model_check(m), d[0], d[1]),
-        b'g' | b'Z' => judge(t, outcome_of(laguipy::graph_check(m, g)), d[0], d[1]),
+        b'g' | b'Z' => graph_case(t, m, g, d[0], d[1]),
         b'f' => figure_case(t, m, g, a, d),
-        b's' => step_case(t, m, &[ZERO; 16], a[1], a[0], a[2], a[3]),
+        b's' => zero_step(t, m, a[1], a[0], a[2], a[3]),
         b'b' => box_steps(t, m),
         _ => value_case(t, m, g, kind, a, d),
     }

@@ -67,7 +67,7 @@ fn due_row(m: &[u8], s: &[usize; 16], c: usize, b: usize, accepted: bool) -> [i1
 
 // The step of the first n values of a state into a row of `room` values: the answer, the new state, and the rest of the
 // row.
-pub fn step_case(
+fn step_case(
     t: &mut [usize; 40],
     m: &[u8],
     s: &[usize; 16],
@@ -84,6 +84,11 @@ pub fn step_case(
     judge(t, o, due.number, due.place);
     let wanted = due_row(m, s, c, b, due.number == 0);
     hold(t, same_rows(&row, &wanted), c, b);
+}
+
+// The same of n zeros.
+pub fn zero_step(t: &mut [usize; 40], m: &[u8], n: usize, room: usize, c: usize, b: usize) {
+    step_case(t, m, &[ZERO; 16], n, room, c, b);
 }
 
 // A state of the pedal model, at j of a box that goes one past each range.
