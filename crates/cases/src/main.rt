@@ -12,7 +12,7 @@ use samples::build::fold_from;
 use samples::build::head;
 use samples::build::holds;
 use samples::build::letter;
-use samples::build::tail;
+use samples::build::part;
 use tally::PLACE;
 use tally::WRONG;
 use tally::close_group;
@@ -26,7 +26,7 @@ use witness::zero_step;
 // The graph stands in the room after a model of any length and one byte more.
 const GRAPH: usize = 40001;
 
-// How long the model and the graph in the room are.
+// Where the model and the graph in the room end.
 struct Folders {
     model: usize,
     graph: usize,
@@ -138,7 +138,6 @@ fn value_case(t: &mut [usize; 40], m: &[u8], g: &[u8], kind: u8, a: &[usize; 32]
     match kind {
         b'r' => row_case(t, m, g, a[0], d),
         b'c' => summary_case(t, m, g, d),
-        b'l' => hold(t, (m.len() == d[0]) & (g.len() == d[1]), m.len(), g.len()),
         b'v' => record_case(t, m, a[1], a[2], d),
         _ => hold(t, false, 0, 0),
     }
@@ -157,7 +156,7 @@ fn asked_case(
     d: &[usize; 32],
 ) {
     let m = head(room, f.model);
-    let g = head(tail(room, GRAPH), f.graph);
+    let g = part(room, GRAPH, f.graph);
     match kind {
         b'm' | b'z' => judge(t, laguipy::model_check(m), d[0], d[1]),
         b'g' | b'Z' => graph_case(t, m, g, d[0], d[1]),
@@ -177,7 +176,7 @@ fn named(f: Folders, kind: u8, length: usize) -> Folders {
         },
         b'Z' => Folders {
             model: f.model,
-            graph: length,
+            graph: add(GRAPH, length),
         },
         _ => f,
     }
@@ -200,14 +199,14 @@ fn case(t: &mut [usize; 40], room: &mut [u8], f: Folders, kind: u8, body: &[u8])
 
 // A line, with its end; the folders after it.
 fn line(t: &mut [usize; 40], room: &mut [u8], f: Folders, text: &[u8]) -> Folders {
-    let body = tail(head(text, find(text, 0, b';')), 2);
+    let body = part(text, 2, find(text, 0, b';'));
     let mut after = f;
     let kind = letter(text, 0);
     match kind {
         0 | b'\n' | b'#' => (),
         b'=' => close_group(t, body),
         b'M' => after.model = fold(room, 5, body),
-        b'G' => after.graph = fold_from(room, GRAPH, 2, body),
+        b'G' => after.graph = add(GRAPH, fold_from(room, GRAPH, 2, body)),
         _ => case(t, room, f, kind, body),
     }
     after
@@ -227,7 +226,7 @@ fn run(t: &mut [usize; 40], room: &mut [u8], script: &[u8]) {
         t[PLACE] = i + 1;
         let before = t[WRONG];
         let next = add(find(script, at, b'\n'), 1);
-        let text = tail(head(script, next), at);
+        let text = part(script, at, next);
         f = line(t, room, f, text);
         tell(t[WRONG] != before, text);
         at = next;

@@ -38,8 +38,13 @@ pub fn head(s: &[u8], n: usize) -> &[u8] {
     if n <= s.len() { &s[0..n] } else { s }
 }
 
-pub fn tail(s: &[u8], from: usize) -> &[u8] {
+fn tail(s: &[u8], from: usize) -> &[u8] {
     if from <= s.len() { &s[from..] } else { &s[..0] }
+}
+
+// The bytes from `from` to `to`, as far as there are any.
+pub fn part(s: &[u8], from: usize, to: usize) -> &[u8] {
+    tail(head(s, to), from)
 }
 
 fn tail_mut(s: &mut [u8], from: usize) -> &mut [u8] {
