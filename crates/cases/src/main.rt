@@ -21,6 +21,7 @@ use tally::judge;
 use tally::outcome_of;
 use tally::say;
 use witness::box_steps;
+use witness::figure_case;
 use witness::zero_step;
 
 // The graph stands in the room after a model of any length and one byte more.
@@ -40,22 +41,6 @@ fn unit(s: &[u32], k: usize) -> usize {
     if k < s.len() { wide(s[k]) } else { 0 }
 }
 
-fn units(s: &mut [u32], n: usize) -> &mut [u32] {
-    if n <= s.len() { &mut s[0..n] } else { s }
-}
-
-// Whether a row holds nothing but nines.
-fn untouched(s: &[u32]) -> bool {
-    let mut i = 0;
-    while i < s.len() {
-        if s[i] != 9 {
-            return false;
-        }
-        i += 1;
-    }
-    true
-}
-
 // The first figure of a row that is not as due; where only the lengths differ 31, and 32 where nothing does.
 fn unlike(row: &[u32], d: &[usize; 32]) -> usize {
     let mut i = 0;
@@ -66,43 +51,6 @@ fn unlike(row: &[u32], d: &[usize; 32]) -> usize {
         i += 1;
     }
     if row.len() == d[31] { 32 } else { 31 }
-}
-
-// A figure call leaves both rows as they are where it is refused, and only there.
-fn kept(t: &mut [usize; 40], number: usize, first: &[u32], second: &[u32]) {
-    let same = untouched(first) & untouched(second);
-    hold(t, same == (number != 0), number, 0);
-}
-
-// By the call that writes nothing, and by the one that writes.
-fn on_rows(
-    t: &mut [usize; 40],
-    m: &[u8],
-    g: &[u8],
-    h: usize,
-    first: &mut [u32],
-    second: &mut [u32],
-    d: &[usize; 32],
-) {
-    let told = laguipy::figure_refusal(m, g, h, first, second);
-    let made = laguipy::figure_rows(m, g, h, first, second);
-    kept(t, d[0], first, second);
-    judge(t, told, d[0], d[1]);
-    judge(t, made, d[0], d[1]);
-}
-
-fn figure_case(t: &mut [usize; 40], m: &[u8], g: &[u8], a: &[usize; 32], d: &[usize; 32]) {
-    let mut first = [9u32; 4096];
-    let mut second = [9u32; 4096];
-    on_rows(
-        t,
-        m,
-        g,
-        a[0],
-        units(&mut first, a[1]),
-        units(&mut second, a[2]),
-        d,
-    );
 }
 
 fn row_case(t: &mut [usize; 40], m: &[u8], g: &[u8], h: usize, d: &[usize; 32]) {

@@ -1,5 +1,5 @@
-// The library's steps, figures and root values against the solver's. Safe and ending on any arguments; its contracts
-// say no more.
+// The library's steps, figures and root values against the solver's, and the figure call's answers and rows. Safe and
+// ending on any arguments; its contracts say no more.
 use clamped::add;
 use clamped::sub;
 use solver::Trial;
@@ -140,4 +140,58 @@ pub fn bounds(t: &mut [usize; 40], m: &[u8], g: &[u8]) {
         both_bounds(t, m, g, h);
         h += 1;
     }
+}
+
+fn units(s: &mut [u32], n: usize) -> &mut [u32] {
+    if n <= s.len() { &mut s[0..n] } else { s }
+}
+
+// Whether a row holds nothing but nines.
+fn untouched(s: &[u32]) -> bool {
+    let mut i = 0;
+    while i < s.len() {
+        if s[i] != 9 {
+            return false;
+        }
+        i += 1;
+    }
+    true
+}
+
+// A figure call leaves both rows as they are where it is refused, and only there.
+fn kept(t: &mut [usize; 40], number: usize, first: &[u32], second: &[u32]) {
+    let same = untouched(first) & untouched(second);
+    hold(t, same == (number != 0), number, 0);
+}
+
+// By the call that writes nothing, and by the one that writes.
+fn on_rows(
+    t: &mut [usize; 40],
+    m: &[u8],
+    g: &[u8],
+    h: usize,
+    first: &mut [u32],
+    second: &mut [u32],
+    d: &[usize; 32],
+) {
+    let told = laguipy::figure_refusal(m, g, h, first, second);
+    let made = laguipy::figure_rows(m, g, h, first, second);
+    kept(t, d[0], first, second);
+    judge(t, told, d[0], d[1]);
+    judge(t, made, d[0], d[1]);
+}
+
+// The figure call at h and row lengths a, due to answer d.
+pub fn figure_case(t: &mut [usize; 40], m: &[u8], g: &[u8], a: &[usize; 32], d: &[usize; 32]) {
+    let mut first = [9u32; 4096];
+    let mut second = [9u32; 4096];
+    on_rows(
+        t,
+        m,
+        g,
+        a[0],
+        units(&mut first, a[1]),
+        units(&mut second, a[2]),
+        d,
+    );
 }

@@ -1,8 +1,8 @@
 use Prim.Native.Nat.{_≤_, _-_}
 use borrow.Author.Needs.{needs}
 use lib.ListN.{length}
-use Rattle.cases.proofs.untouched.Statement.{statement}
-use Rattle.cases.proofs.untouched.Tie as tie
+use Rattle.witness.proofs.untouched.Statement.{statement}
+use Rattle.witness.proofs.untouched.Tie as tie
 
 abbrev Inv-loop : tie.InvT-loop
 Inv-loop s i₀ i = i ≤ length s
