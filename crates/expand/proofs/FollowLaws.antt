@@ -40,7 +40,7 @@ variable-tested vars nb bs known values state from to v pe pc ps pl pa pt pb pv 
     rw (p, q, pv, pb, pt, ps, pa, pc, pl, pe, i, j, k) refl
 
 -- The entry that is assigned has a place in the rows.
-pub entry-there : {vars rows from to : ℕ} {nb bs : List ℕ} → Leads vars nb bs rows from to → (v : ℕ) → v < vars → {e : ℕ} → e ≡ u16 bs (from + 2 + 2 * v) → e < rows
+pub entry-there : {vars from to : ℕ} {nb bs : List ℕ} → Leads vars nb bs from to → (v : ℕ) → v < vars → {e : ℕ} → e ≡ u16 bs (from + 2 + 2 * v) → e < mostExpressions
 entry-there {from = from} {bs = bs} leads v l p =
     let i : from + 2 + 2 * v ≡ from + 2 * (1 + v) = omega arith in
     rw (p, i) (leads .entries v l)
@@ -116,7 +116,7 @@ module _ {m g : List ℕ} {n : ℕ} {cs eb : List ℕ} {edges e p c branches : �
     first-is = ap (λ (i : ℕ). getD firsts i 0) command-is ∙ table .placed _ command-there
 
     -- Records are whole, and entries that are assigned are among the model's.
-    pub all-lead : {vars : ℕ} {bs nb : List ℕ} → Held m g vars bs nb → AllLead vars nb bs mostExpressions eb (getD firsts c 0) branches p
+    pub all-lead : {vars : ℕ} {bs nb : List ℕ} → Held m g vars bs nb → AllLead vars nb bs eb (getD firsts c 0) branches p
     all-lead held = rw (first-is, branches-are, held .variables, held .records-in, held .nodes-in, read .edges-in, read .stands) (record {
       each = λ b l.
           let r = record-there (modelOf m) (node .model .model) (simulationOf (modelOf m) g .command n e) b command-there l in record {

@@ -6,6 +6,7 @@ use mathlib.Core.List.{List}
 use lib.ListN.{length, getD}
 use lib.IntN.{ℤ}
 use Rattle.evaluate.specs.Settled.{Settled, StateRow}
+use Rattle.model.specs.Limits.{mostExpressions}
 use Rattle.model.specs.Model.{modelOf, firstRecord}
 use Rattle.model.specs.Valid.{Valid}
 use Rattle.graph.specs.Simulation.{nodeCount, simulationOf}
@@ -26,6 +27,10 @@ module _ (m g : List ℕ) (n : ℕ) where
   -- The row has what each entry is in the node's concrete state.
   abbrev pub StateSettled : List ℤ → Type 0
   StateSettled state = StateRow (modelOf m .entries) (concreteState (modelOf m) (simulationOf (modelOf m) g) n) state
+
+-- The rows have a place for each expression that a model may have.
+abbrev pub RowsLong : List ℕ → List ℤ → List ℤ → Type 0
+RowsLong known values state = (mostExpressions ≤ length known) × (mostExpressions ≤ length values) × (mostExpressions ≤ length state)
 
 -- The row has each command's first branch record.
 pub record FirstsOf (m : List ℕ) (firsts : List ℕ) : Type 0 where

@@ -11,6 +11,7 @@ use Rattle.folder.specs.Scan.{all}
 use Rattle.folder.specs.Fields.{u16, i16}
 use Rattle.whole.specs.Order.{eqZ}
 use Rattle.expressions.specs.Reading.{hasBit}
+use Rattle.model.specs.Limits.{mostExpressions}
 use Rattle.model.specs.Layout.{branchSize}
 use Rattle.graph.specs.Simulation.{nodeSize, commandIn, successorIn}
 
@@ -33,11 +34,11 @@ namesAt eb edges k p c = ltb k edges && eqb (commandIn eb p) c
 
 -- nb is the body of nodes, and bs that of branch records.
 module _ (variables : ℕ) (nb bs : List ℕ) where
-  -- The branch record at `from` and the node at `to` are whole, and each entry that is assigned has one of `rows` places.
-  pub record Leads (rows from to : ℕ) : Type 0 where
+  -- The branch record at `from` and the node at `to` are whole, and the entries that are assigned are few enough.
+  pub record Leads (from to : ℕ) : Type 0 where
     pub branch : from + branchSize variables ≤ length bs
     pub node : to + nodeSize variables ≤ length nb
-    pub entries : (v : ℕ) → v < variables → u16 bs (from + 2 * (1 + v)) < rows
+    pub entries : (v : ℕ) → v < variables → u16 bs (from + 2 * (1 + v)) < mostExpressions
 
   module _ (known : List ℕ) (values state : List ℤ) where
     -- It gives variable v what the node has, and reads so in the label where the node tracks v.
@@ -54,5 +55,5 @@ module _ (variables : ℕ) (nb bs : List ℕ) where
     branchesFollow eb first branches p = all (λ b. branchFollows (first + b) (successorIn eb p b)) branches
 
   -- All branches of the edge at p lead so.
-  pub record AllLead (rows : ℕ) (eb : List ℕ) (first branches p : ℕ) : Type 0 where
-    pub each : (b : ℕ) → b < branches → Leads rows (branchSize variables * (first + b)) (nodeSize variables * successorIn eb p b)
+  pub record AllLead (eb : List ℕ) (first branches p : ℕ) : Type 0 where
+    pub each : (b : ℕ) → b < branches → Leads (branchSize variables * (first + b)) (nodeSize variables * successorIn eb p b)

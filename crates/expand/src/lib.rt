@@ -19,7 +19,7 @@ ghost use Rattle.model.specs.Valid.{Valid};
 ghost use Rattle.graph.specs.Simulation.{nodeSize, nodeField, simulationOf};
 ghost use Rattle.graph.specs.Rules.{A1, A2, sameEdges, B1, edgesFollow, B2};
 ghost use Rattle.graph.specs.Walks.{startsAt};
-ghost use Rattle.expand.specs.Node.{NodeOf, LabelSettled, StateSettled, FirstsOf};
+ghost use Rattle.expand.specs.Node.{NodeOf, LabelSettled, StateSettled, FirstsOf, RowsLong};
 ghost use Rattle.expand.specs.Tests.{knownAt, falseAt, readsAt, namesAt, Leads, AllLead, variableFollows, branchFollows, branchesFollow};
 
 // Fills the front of a row with the values of node n whose first is field f: 6 for the concrete label, and as many more
@@ -224,8 +224,8 @@ fn variable_follows(
     v: usize,
 ) -> bool
     requires { ⌜ (vars ≤ 16) × (v < vars) ⌝ }
-    requires { ⌜ Leads vars (now nb) (now bs) mostExpressions from to ⌝ }
-    requires { ⌜ (mostExpressions ≤ length (now known)) × (mostExpressions ≤ length (now values)) × (mostExpressions ≤ length (now state)) ⌝ }
+    requires { ⌜ Leads vars (now nb) (now bs) from to ⌝ }
+    requires { ⌜ RowsLong (now known) (now values) (now state) ⌝ }
     ensures { λ t. ⌜ (set ≡ u16 (now (nb .entry)) (to + 10) → t ≡ variableFollows vars (now (nb .entry)) (now (bs .entry)) (now (known .entry)) (now (values .entry)) (now (state .entry)) from to v) ⌝ }
 {
     let e = folder::u16_in(bs, from + 2 + 2 * v);
@@ -247,8 +247,8 @@ fn branch_follows(
     s: usize,
 ) -> bool
     requires { ⌜ (vars ≤ 16) × (r ≤ 65536) × (s ≤ 65536) ⌝ }
-    requires { ⌜ Leads vars (now nb) (now bs) mostExpressions (branchSize vars * r) (nodeSize vars * s) ⌝ }
-    requires { ⌜ (mostExpressions ≤ length (now known)) × (mostExpressions ≤ length (now values)) × (mostExpressions ≤ length (now state)) ⌝ }
+    requires { ⌜ Leads vars (now nb) (now bs) (branchSize vars * r) (nodeSize vars * s) ⌝ }
+    requires { ⌜ RowsLong (now known) (now values) (now state) ⌝ }
     ensures { λ t. ⌜ t ≡ branchFollows vars (now (nb .entry)) (now (bs .entry)) (now (known .entry)) (now (values .entry)) (now (state .entry)) r s ⌝ }
 {
     let from = (2 + 2 * vars) * r;
@@ -279,8 +279,8 @@ fn branches_follow(
     p: usize,
 ) -> bool
     requires { ⌜ (vars ≤ 16) × (first + branches ≤ 65536) × (p < 2 ^ 40) ⌝ }
-    requires { ⌜ AllLead vars (now nb) (now bs) mostExpressions (now eb) first branches p ⌝ }
-    requires { ⌜ (mostExpressions ≤ length (now known)) × (mostExpressions ≤ length (now values)) × (mostExpressions ≤ length (now state)) ⌝ }
+    requires { ⌜ AllLead vars (now nb) (now bs) (now eb) first branches p ⌝ }
+    requires { ⌜ RowsLong (now known) (now values) (now state) ⌝ }
     ensures { λ t. ⌜ t ≡ branchesFollow vars (now (nb .entry)) (now (bs .entry)) (now (known .entry)) (now (values .entry)) (now (state .entry)) (now (eb .entry)) first branches p ⌝ }
 {
     let mut b = 0;
@@ -317,7 +317,7 @@ fn edges_follow(
     requires { ⌜ FirstsOf (now m) (now firsts) ⌝ }
     requires { ⌜ LabelSettled (now m) (now g) n (now known) (now values) ⌝ }
     requires { ⌜ StateSettled (now m) (now g) n (now state) ⌝ }
-    requires { ⌜ (mostExpressions ≤ length (now known)) × (mostExpressions ≤ length (now values)) × (mostExpressions ≤ length (now state)) ⌝ }
+    requires { ⌜ RowsLong (now known) (now values) (now state) ⌝ }
     ensures { λ r. ⌜ (r .holds ≡ edgesFollow (modelOf (now (m .entry))) (simulationOf (modelOf (now (m .entry))) (now (g .entry))) n) × (r .holds ≡ true → r .next ≡ startsAt (modelOf (now (m .entry))) (now (g .entry)) (n + 1)) ⌝ }
 {
     let vars = graph::variable_count(m);
@@ -364,7 +364,7 @@ pub fn b2(
     requires { ⌜ FirstsOf (now m) (now firsts) ⌝ }
     requires { ⌜ LabelSettled (now m) (now g) n (now known) (now values) ⌝ }
     requires { ⌜ StateSettled (now m) (now g) n (now state) ⌝ }
-    requires { ⌜ (mostExpressions ≤ length (now known)) × (mostExpressions ≤ length (now values)) × (mostExpressions ≤ length (now state)) ⌝ }
+    requires { ⌜ RowsLong (now known) (now values) (now state) ⌝ }
     ensures { λ r. ⌜ (r .holds ≡ B2 (modelOf (now (m .entry))) (simulationOf (modelOf (now (m .entry))) (now (g .entry))) n) × (r .holds ≡ true → r .next ≡ startsAt (modelOf (now (m .entry))) (now (g .entry)) (n + 1)) ⌝ }
 {
     if node_field(m, g, n, 0) == EXPANDED {
