@@ -9,12 +9,11 @@ use lib.ListN.{length}
 use borrow.Author.Tests.{leb-true}
 use Rattle.folder.specs.Contents.{body}
 use Rattle.folder.proofs.ContentsLaws.{body-short}
-use Rattle.model.specs.Model.{Model, modelOf}
-use Rattle.model.specs.Valid.{Valid}
+use Rattle.model.specs.Model.{Model}
 use Rattle.graph.specs.Limits.{mostBytes}
 use Rattle.graph.specs.Simulation.{edgeSize, edgeAfter, edgesStart, edgeWhole, nodeField, edgeAt, nodeCount}
 use Rattle.graph.specs.Valid.{RowsRight}
-use Rattle.graph.specs.Walks.{startsAt, EdgeThere}
+use Rattle.graph.specs.Walks.{startsAt}
 
 -- ---- the cursor, of any graph
 module _ (M : Model) (g : List ℕ) where
@@ -48,12 +47,6 @@ module _ {M : Model} {g : List ℕ} (rows : RowsRight M g) where
   unfolding edgeWhole
   ends n e l k = leb-true _ _ (rows .content .edges n l e k .whole)
 
-  -- The edge at the cursor.
-  pub edge-there : (n e : ℕ) {es : List ℕ} {k nodes : ℕ} → n < nodeCount M g → e < nodeField M g n 4 → es ≡ body g 1 → k ≡ edgeAt M g n e → nodes ≡ nodeCount M g
-      → EdgeThere M nodes es k
-  edge-there n e l h q p c =
-      rw (q, p, c) (record { ends = ends n e l h; command = rows .content .edges n l e h .command; successors = rows .content .edges n l e h .successors })
-
   -- No cursor passes the body's end, which is near.
   from-start : (n e : ℕ) → n < nodeCount M g → e ≤ nodeField M g n 4 → startsAt M g n ≤ length (body g 1) → edgeAt M g n e ≤ length (body g 1)
   from-start n zero l h s = rw (sym (place-start M g n refl)) s
@@ -69,8 +62,3 @@ module _ {M : Model} {g : List ℕ} (rows : RowsRight M g) where
 
   pub edges-short : length (body g 1) ≤ mostBytes
   edges-short = omega (arith, body-short g 1, rows .folder .short)
-
--- An edge has at most 34 bytes.
-pub edge-small : {m : List ℕ} {nodes k : ℕ} {es : List ℕ} → Valid m → EdgeThere (modelOf m) nodes es k → edgeSize (modelOf m) es k ≤ 34
-unfolding edgeSize
-edge-small v e = omega (arith, v .model .commands _ (e .command) .few)

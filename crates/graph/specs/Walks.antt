@@ -1,10 +1,9 @@
 -- What the code holds while it goes over nodes and edges: bodies as slices of their own, and a position among the edges.
 -- Assumes nothing.
-use Prim.Native.Nat.{ℕ, _+_, _≤_, _<_}
+use Prim.Native.Nat.{ℕ, _+_, _≤_}
 use mathlib.Core.Path.{_≡_}
 use mathlib.Core.Bool.{Bool}
 use mathlib.Core.List.{List}
-use lib.ListN.{length}
 use lib.Dec.{ltb}
 use Rattle.folder.specs.Scan.{firstBad}
 use Rattle.folder.specs.Contents.{body}
@@ -45,9 +44,3 @@ module _ (M : Model) (nodes : ℕ) (es : List ℕ) where
   pub record Walked (a n bad k : ℕ) : Type 0 where
     pub first : bad ≡ firstBad (edgeFitsFrom a) n
     pub next : n ≤ bad → k ≡ edgeAfter M es a n
-
-  -- The edge at k as a rule: it ends by the body's end, and its command and its successors are there.
-  pub record EdgeThere (k : ℕ) : Type 0 where
-    pub ends : k + edgeSize M es k ≤ length es
-    pub command : commandIn es k < M .commands
-    pub successors : (b : ℕ) → b < M .branches (commandIn es k) → successorIn es k b < nodes

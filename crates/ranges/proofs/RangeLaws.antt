@@ -9,7 +9,6 @@ use native.Mathlib.Omega.{arith}
 use borrow.Author.Tests.{lt-ltb, le-ltb}
 use lib.ListN.{List·getD-eq-default}
 use lib.IntN.{ℤ, pos}
-use lib.Signed.{_≤ℤ_}
 use Rattle.folder.specs.Contents.{countOf, signedField}
 use Rattle.folder.specs.Tab.{tab}
 use Rattle.folder.proofs.TabLaws.{length-tab, getD-tab}
@@ -46,14 +45,6 @@ low-in {r} h = record { low = from-⊑ (⊑-refl (r .low)); high = h .ends }
 
 high-in : {r : Range} → Ordered r → In r (r .high)
 high-in {r} h = record { low = h .ends; high = from-⊑ (⊑-refl (r .high)) }
-
--- Row 4 says it of each variable.
-pub bounds-ordered : (y : List ℕ) → ((v : ℕ) → v < countOf 6 y → signedField 6 y v 0 ≤ℤ signedField 6 y v 1) → (v : ℕ) → Ordered (boundIn y v)
-bounds-ordered y h v = go (decLt v (countOf 6 y))
-  where
-    go : Dec (v < countOf 6 y) → Ordered (boundIn y v)
-    go (yes l) = rw (← bound-here y v refl l) (record { ends = h v l })
-    go (no l) = rw (← bound-past y v refl (omega arith)) (record { ends = from-⊑ (⊑-refl (pos 0)) })
 
 -- A range in which a number lies.
 in-ordered : {r : Range} {z : ℤ} → In r z → Ordered r
