@@ -14,7 +14,7 @@ tried=0
 # Compares what the program prints in a folder with a file.
 compare() { # NAME DIR EXPECTED
     tried=$((tried + 1))
-    if (cd "$2" && "$program") >"$room/printed" 2>"$room/said" && [ ! -s "$room/said" ] && cmp -s "$room/printed" "$3"
+    if (cd "$2" && timeout 30 "$program") >"$room/printed" 2>"$room/said" && [ ! -s "$room/said" ] && cmp -s "$room/printed" "$3"
     then
         echo "ok        $1: $(head -n 1 "$3")"
     else
@@ -86,6 +86,15 @@ else
     odd locked right 'no file'
     odd right locked 'no file'
 fi
+
+# The model is read first, to its end: the second pipe gets its bytes only once the first has been read. A program that
+# opens the graph first, or both before it reads, waits until it is stopped.
+rm -rf "$room/files"
+mkdir "$room/files"
+mkfifo "$room/files/model.fold" "$room/files/graph.fold"
+timeout 30 sh -c 'cat "$1/model.fold" >"$2/model.fold" && cat "$1/graph.fold" >"$2/graph.fold"' \
+    sh "$root/examples/pedal" "$room/files" &
+compare "the model read before the graph is opened" "$room/files" "$root/examples/pedal/expected.txt"
 
 # Node 5 of the pedal example waiting, whose kind is at byte 116: no figures.
 rm -rf "$room/files"

@@ -10,9 +10,14 @@ use generate::*;
 use laguipy::Refusal;
 use std::ops::Range;
 
-/// How many inputs the test over seeds takes.
+/// How many inputs the test over seeds takes: at least one, so that it never passes
+/// with nothing compared.
 fn cases() -> u64 {
-    std::env::var("LAGUIPY_CASES").ok().and_then(|count| count.parse().ok()).unwrap_or(120_000)
+    let Ok(count) = std::env::var("LAGUIPY_CASES") else { return 120_000 };
+    match count.parse() {
+        Ok(count) if count > 0 => count,
+        _ => panic!("LAGUIPY_CASES is {count:?}: a count of 1 or more is wanted"),
+    }
 }
 
 /// The number of each call's answer, 0 for acceptance.

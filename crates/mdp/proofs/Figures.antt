@@ -9,7 +9,7 @@ use mathlib.Core.Bool.{true}
 use Rattle.mdp.specs.Sums.{greatest, if_then_else_}
 use Rattle.mdp.specs.Mdp.{Mdp, Fair, P, weighing}
 use Rattle.mdp.specs.Kinds.{Kind}
-use Rattle.mdp.specs.Graph.{Graph, along, IsExpanded, Labelled, shared, round, up, figure}
+use Rattle.mdp.specs.Graph.{Graph, along, IsExpanded, Labelled, again, shared, round, up, figure}
 use Rattle.mdp.proofs.SumLaws.{greatest-above, greatest-below}
 use Rattle.mdp.proofs.Best.{weighed-fair, weighing-le-best}
 use Rattle.mdp.proofs.Cases.{Holds, each-node}
@@ -33,7 +33,7 @@ module _ (M : Mdp) (G : Graph) (S W : ℕ) (divide : ℕ → ℕ) where
   round-zero n e = rw (e, e)
 
   pub round-suc : (k n : ℕ) → kind n ≡ Kind.expanded
-      → round M G S W divide (suc k) n ≡ divide (greatest (edges n) (λ e _. along M G (round M G S W divide k) n e))
+      → round M G S W divide (suc k) n ≡ again M G S W divide (round M G S W divide k) Kind.expanded n
   unfolding round
   round-suc k n e = rw (e, e)
 

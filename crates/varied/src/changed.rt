@@ -21,6 +21,7 @@ use tally::outcome_of;
 use tally::place_of;
 use witness::bounds;
 use witness::box_steps;
+use witness::rows_case;
 
 // An accepted model with a graph whose answer has the number n: steps where they are asked for, bounds where the graph is
 // accepted.
@@ -35,8 +36,10 @@ fn accepted(t: &mut [usize; 40], m: &[u8], g: &[u8], n: usize, steps: bool) {
     }
 }
 
-// A model and a graph: a refused model refuses the graph.
+// A model and a graph: a refused model refuses the graph. Refused or not, the figure call leaves its rows as it should.
 fn pair(t: &mut [usize; 40], m: &[u8], g: &[u8], steps: bool) {
+    rows_case(t, m, g, 2, 6, 7);
+    rows_case(t, m, g, 3, 7, 6);
     let o = laguipy::model_check(m);
     let a = outcome_of(laguipy::graph_check(m, g));
     let n = number_of(o);

@@ -2,6 +2,7 @@
 // ending on any arguments; its contracts say no more.
 use clamped::add;
 use clamped::sub;
+use graph::MOST_NODES;
 use solver::Trial;
 use solver::ZERO;
 use tally::BOUNDS;
@@ -181,10 +182,41 @@ fn on_rows(
     judge(t, made, d[0], d[1]);
 }
 
+// Whether the rows hold the same.
+fn same_units(a: &[u32; MOST_NODES], b: &[u32; MOST_NODES]) -> bool {
+    let mut i = 0;
+    while i < MOST_NODES {
+        if a[i] != b[i] {
+            return false;
+        }
+        i += 1;
+    }
+    true
+}
+
+// The call that hands its figures back, on rows of n and k units. What it leaves in both rows no contract can state: it
+// is what `figure_rows` leaves in rows that held the same.
+pub fn rows_case(t: &mut [usize; 40], m: &[u8], g: &[u8], h: usize, n: usize, k: usize) {
+    let mut first = [9u32; MOST_NODES];
+    let mut second = [9u32; MOST_NODES];
+    let mut handed_first = [9u32; MOST_NODES];
+    let mut handed_second = [9u32; MOST_NODES];
+    laguipy::figure_rows(m, g, h, units(&mut first, n), units(&mut second, k));
+    laguipy::figure(
+        m,
+        g,
+        h,
+        units(&mut handed_first, n),
+        units(&mut handed_second, k),
+    );
+    let same = same_units(&first, &handed_first) & same_units(&second, &handed_second);
+    hold(t, same, h, 0);
+}
+
 // The figure call at h and row lengths a, due to answer d.
 pub fn figure_case(t: &mut [usize; 40], m: &[u8], g: &[u8], a: &[usize; 32], d: &[usize; 32]) {
-    let mut first = [9u32; 4096];
-    let mut second = [9u32; 4096];
+    let mut first = [9u32; MOST_NODES];
+    let mut second = [9u32; MOST_NODES];
     on_rows(
         t,
         m,
@@ -194,4 +226,5 @@ pub fn figure_case(t: &mut [usize; 40], m: &[u8], g: &[u8], a: &[usize; 32], d: 
         units(&mut second, a[2]),
         d,
     );
+    rows_case(t, m, g, a[0], a[1], a[2]);
 }
