@@ -1,0 +1,336 @@
+"""The command line: `laguipy --help`."""
+import argparse
+import json
+import os
+import sys
+
+from . import check, explain, graphs, models, native, series, texts, where
+from .errors import InputError
+from .findings import MEANING
+from .fold import of
+from .inputs import STANDARD, UsageError, load, model_names, pair_of
+from .limits import MOST_STEPS
+from .output import DONE, REFUSED, USAGE, emit, guarded, say, say_error
+from .version import version
+
+PROGRAM = "laguipy"
+COMMANDS = ("check", "figures", "model", "graph", "show", "explain")
+
+ABOUT = """\
+Checks simulation graphs of Markov decision processes. What it reports of an accepted graph is proved: no strategy reaches
+a target with a greater chance than the root value.
+
+  laguipy [check] DIR        the report on model.fold and graph.fold in DIR; or name the two files
+  laguipy figures DIR H..    the chance at worst within H steps, for any H to 10000, of any node
+  laguipy explain DIR        what a refusal means here, and what to do
+  laguipy model FILE         text to a model folder, checked
+  laguipy graph FILE         text to a graph folder, checked
+  laguipy show FOLD          a folder as text
+
+`laguipy COMMAND --help` has more. Each takes --json, and - for standard input or output where a file is meant.
+"""
+STATUSES = """\
+Exit status: 0 accepted or done; 1 refused, or an input cannot be read; 2 bad usage; 3 not proved, could not run, or the
+output cannot be written.
+"""
+
+
+# ---- the commands
+
+
+def say_names(wrong):
+    if wrong:
+        say(PROGRAM, f"{wrong}; v0, v1 and so on stand for names")
+
+
+def run_check(args):
+    pair = pair_of(args.places, where.example)
+    report = check.full_report(pair, args.any_size)
+    status = check.status_of(report)
+    again = " ".join([PROGRAM, "check", "--any-size", *args.places])
+    notes = [] if args.quiet else check.remarks(pair, report, again)
+    if args.json:
+        emit(json.dumps(check.report_data(report, notes)) + "\n")
+    else:
+        emit(report)
+        for note in notes:
+            say(PROGRAM, note)
+    return status
+
+
+def run_explain(args):
+    pair = pair_of(args.places, where.example)
+    names, wrong = pair.names()
+    say_names(wrong)
+    explanation = explain.explain(pair.model_bytes, pair.graph_bytes, names)
+    emit(json.dumps(explanation.data()) + "\n" if args.json else "\n".join(explanation.lines()) + "\n")
+    return REFUSED if explanation.number else DONE
+
+
+def steps_of(args, words):
+    """The numbers of steps that are asked for, ascending."""
+    try:
+        steps = {int(word) for word in words}
+    except ValueError:
+        raise UsageError("H is a whole number of steps") from None
+    if args.upto is not None:
+        steps |= set(range(min(args.upto, MOST_STEPS + 1) + 1))
+    if not steps or min(steps) < 0:
+        raise UsageError("say for how many steps: H.. or --upto H, whole numbers from 0")
+    return sorted(steps)
+
+
+def nodes_of(args, count):
+    """The nodes whose figures are asked for."""
+    if args.nodes == "all":
+        return range(count)
+    try:
+        nodes = [int(word) for word in args.nodes.split(",")]
+    except ValueError:
+        raise UsageError("--nodes wants all, or node numbers with commas between") from None
+    for node in nodes:
+        if not 0 <= node < count:
+            raise UsageError(f"there is no node {node}: they are 0 to {count - 1}")
+    return nodes
+
+
+def is_number(word):
+    return word.lstrip("-").isdigit() and not os.path.exists(word)
+
+
+def run_figures(args):
+    places = [word for word in args.words if not is_number(word)]
+    pair = pair_of(places, where.example)
+    steps = steps_of(args, [word for word in args.words if is_number(word)])
+    model, graph = pair.model_bytes, pair.graph_bytes
+    try:
+        summary = native.graph_check(model, graph)
+        rows = native.units(summary.nodes), native.units(summary.nodes)
+        native.figure_refusal(model, graph, steps[-1], *rows)
+    except native.Refusal as refusal:
+        return refused(args, refusal)
+    nodes = nodes_of(args, summary.nodes)
+    write_figures(args, summary, nodes, series.figures_for(model, graph, steps))
+    return DONE
+
+
+def refused(args, refusal):
+    """A refusal in place of what was asked for."""
+    meaning = MEANING[refusal.number]
+    if args.json:
+        data = {"answer": "refused", "number": refusal.number, "place": refusal.place, "meaning": meaning}
+        emit(json.dumps(data) + "\n")
+    else:
+        emit(f"{refusal}\n")
+        say(PROGRAM, f"{refusal.number}: {meaning}; `{PROGRAM} explain` says more")
+    return REFUSED
+
+
+def write_figures(args, summary, nodes, found):
+    """Writes figures as they come: lines, CSV or JSON."""
+    alone = list(nodes) == [0]
+    if args.csv:
+        emit("h,node,units,percent\n")
+    data = []
+    for h, figures in found:
+        lines = []
+        for node in nodes:
+            units = figures[node]
+            percent = series.percent(units)
+            if args.json:
+                data.append({"h": h, "node": node, "units": units, "percent": percent})
+            elif args.csv:
+                lines.append(f"{h},{node},{units},{percent}\n")
+            else:
+                lines.append(f"within {h}{'' if alone else f' node {node}'} {units} {percent} %\n")
+        emit("".join(lines))
+    if args.json:
+        emit(json.dumps({"answer": "accepted", "root": summary.root, "figures": data}) + "\n")
+
+
+def finish_text(args, out, written, wrong, store):
+    """Stores what a text gave, if it is right or wanted all the same, and says what it is."""
+    if wrong and not args.anyway:
+        if args.json:
+            emit(json.dumps(wrong.data()) + "\n")
+        say_error(PROGRAM, wrong)
+        say(PROGRAM, "nothing is written; --anyway writes folders that are wrong on purpose")
+        return REFUSED
+    if wrong:
+        say_error(PROGRAM, wrong)
+        say(PROGRAM, "written all the same")
+    if out == STANDARD:
+        emit(written.data)
+        say(PROGRAM, written.told)
+        return DONE
+    store()
+    if args.json:
+        counts = {word: count for count, word in written.counts}
+        emit(json.dumps({"answer": "done", "file": out, "bytes": len(written.data), **counts}) + "\n")
+    else:
+        emit(f"{out}: {written.told}\n")
+    return DONE
+
+
+def run_model(args):
+    written, wrong = texts.model_of(args.file)
+    out = texts.default_out(args.file, args.out, "model.fold")
+    return finish_text(args, out, written, wrong, lambda: texts.save_model(out, written, args.file))
+
+
+def run_graph(args):
+    model_path = args.model
+    if model_path is None:
+        model_path = os.path.join(os.path.dirname(args.file) if args.file != STANDARD else "", "model.fold")
+    model = load(model_path)
+    say_names(of(model_path, lambda: model_names(model_path, model))[1])
+    written, wrong = texts.graph_of(args.file, model_path, model)
+    out = texts.default_out(args.file, args.out, "graph.fold")
+    return finish_text(
+        args, out, written, wrong, lambda: texts.save(out, written.data, [args.file, model_path])
+    )
+
+
+def run_show(args):
+    names = args.names.split(",") if args.names is not None else None
+    if args.model is None and os.path.isdir(args.fold):
+        folds = [os.path.join(args.fold, name) for name in check.NAMES]
+        shown = [texts.show(folds[0], None, names, args.entries), texts.show(folds[1], folds[0], names, False)]
+        text = "".join(f"# {fold}\n{text}" for fold, (text, _) in zip(folds, shown))
+        data = {"model": shown[0][1], "graph": shown[1][1]}
+    else:
+        text, data = texts.show(args.fold, args.model, names, args.entries)
+    emit(json.dumps(data) + "\n" if args.json else text)
+    return DONE
+
+
+# ---- the words
+
+
+def told_version():
+    """The version, and of what stands proved the commit and the toolchain."""
+    lines = [f"{PROGRAM} {version()}"]
+    if where.prefix():
+        facts = where.proved_facts()
+        lines += [f"{name} {facts[name]}" for name in ("commit", "toolchain") if name in facts]
+    return "\n".join(lines)
+
+
+class ShowVersion(argparse.Action):
+    def __init__(self, *words, **more):
+        super().__init__(*words, nargs=0, **more)
+
+    def __call__(self, *_):
+        emit(told_version() + "\n")
+        raise SystemExit(DONE)
+
+
+class Parser(argparse.ArgumentParser):
+    """Help goes where all output goes, so that what cannot be written is told."""
+
+    def print_help(self, file=None):
+        emit(self.format_help())
+
+
+def add(commands, name, run, about, more=""):
+    command = commands.add_parser(
+        name,
+        help=about,
+        description=f"{about}\n\n{more}".rstrip() + "\n",
+        epilog=STATUSES,
+        formatter_class=argparse.RawDescriptionHelpFormatter,
+    )
+    command.add_argument("--json", action="store_true", help="the answer as JSON")
+    command.add_argument("--version", action=ShowVersion, help="the version, and what was proved")
+    command.set_defaults(run=run)
+    return command
+
+
+def add_check(commands):
+    more = "PLACE is a directory with model.fold and graph.fold, or the two files; without one, the pedal example."
+    command = add(commands, "check", run_check, "Prints the report on a model and a graph.", more)
+    command.add_argument("places", nargs="*", metavar="PLACE")
+    command.add_argument(
+        "--any-size", action="store_true", help="by the library, which takes graphs over 65536 bytes too"
+    )
+    command.add_argument("-q", "--quiet", action="store_true", help="no warnings")
+
+
+def add_figures(commands):
+    more = "Units are billionths. PLACE is as for check; a graph in which a node waits has no figures."
+    command = add(commands, "figures", run_figures, "Prints figures: the chance at worst within H steps.", more)
+    command.add_argument("words", nargs="*", metavar="PLACE | H")
+    command.add_argument("--upto", type=int, metavar="H", help="for every number of steps from 0 to H")
+    command.add_argument("--nodes", default="0", metavar="all|0,3", help="of these nodes; without it the root's, node 0")
+    command.add_argument("--csv", action="store_true", help="as comma-separated values")
+
+
+def add_texts(commands):
+    model = add(commands, "model", run_model, "Writes a model folder, and its names beside it, from text.", models.TEXT)
+    graph = add(commands, "graph", run_graph, "Writes a graph folder from text.", graphs.TEXT)
+    graph.add_argument("-m", "--model", metavar="MODEL", help="its model folder; without it model.fold beside FILE")
+    for command, name in ((model, "model.fold"), (graph, "graph.fold")):
+        command.add_argument("file", metavar="FILE", help="the text")
+        command.add_argument("-o", "--out", metavar="OUT", help=f"the folder; without it {name} beside FILE")
+        command.add_argument("--anyway", action="store_true", help="write it though it is refused")
+
+
+def parser():
+    whole = Parser(
+        prog=PROGRAM, description=ABOUT, epilog=STATUSES, formatter_class=argparse.RawDescriptionHelpFormatter, usage="%(prog)s COMMAND .."
+    )
+    whole.add_argument("--version", action=ShowVersion, help="the version, and what was proved")
+    commands = whole.add_subparsers(metavar="COMMAND", dest="command", required=True, parser_class=Parser)
+    add_check(commands)
+    add_figures(commands)
+    command = add(commands, "explain", run_explain, "Says what a refusal means here, and what to do.", "PLACE is as for check.")
+    command.add_argument("places", nargs="*", metavar="PLACE")
+    add_texts(commands)
+    command = add(commands, "show", run_show, "Prints a folder as text.", "A directory shows its model.fold and graph.fold.")
+    command.add_argument("fold", metavar="FOLD", help="a model folder, a graph folder, or a directory")
+    command.add_argument("model", metavar="MODEL", nargs="?", help="the graph's model folder")
+    command.add_argument("--names", metavar="a,d", help="the variables' names, in order")
+    command.add_argument("--entries", action="store_true", help="list a model's entries with their numbers in any case")
+    return whole
+
+
+def with_command(words):
+    """`laguipy DIR` is `laguipy check DIR`."""
+    if not words or (words[0] not in COMMANDS and words[0] not in ("-h", "--help", "--version")):
+        return ["check", *words]
+    return list(words)
+
+
+def needs_nothing(words):
+    """Whether these words ask for help or for the version alone, for which nothing need be proved."""
+    return any(word in ("-h", "--help", "--version") for word in words)
+
+
+def parsed(words):
+    """The words of a command. Those that name places or numbers may stand before and after options."""
+    whole = parser()
+    args, rest = whole.parse_known_args(with_command(words))
+    listed = getattr(args, "words", getattr(args, "places", None))
+    wrong = [word for word in rest if listed is None or (word.startswith("-") and word != STANDARD and not is_number(word))]
+    if wrong:
+        whole.error(f"unrecognized arguments: {' '.join(wrong)}")
+    if rest:
+        listed += rest
+    return args
+
+
+def run(words):
+    args = parsed(words)
+    try:
+        return args.run(args)
+    except InputError as error:
+        if args.json:
+            emit(json.dumps({"answer": "error", "message": error.message}) + "\n")
+        raise
+    except UsageError as error:
+        say(PROGRAM, f"{error}; `{PROGRAM} {args.command} --help` has the usage")
+        return USAGE
+
+
+def main(words=None):
+    return guarded(PROGRAM, lambda: run(sys.argv[1:] if words is None else words))

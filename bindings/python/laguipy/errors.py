@@ -1,0 +1,26 @@
+"""What is wrong with an input that is not a folder of the right form, or not text of the right form."""
+
+
+class InputError(Exception):
+    """What is wrong, and at which line of the text, if it is text."""
+
+    placed = False  # whether the message starts with the file, and the line
+
+    def __init__(self, message, line=None):
+        super().__init__(message)
+        self.message = message
+        self.line = line
+
+    def at(self, path):
+        """The same, told of this file; one that names its file stays as it is."""
+        if self.placed:
+            return self
+        where = f"{path}:{self.line}" if self.line else str(path)
+        found = InputError(f"{where}: {self.message}")
+        found.placed = True
+        return found
+
+
+def counted(count, word):
+    """So many of these: `1 branch`, `2 branches`."""
+    return f"{count} {word}" + ("" if count == 1 else "es" if word == "branch" else "s")

@@ -1,0 +1,312 @@
+"""The rules of a graph folder, rows 12 to 25 of the refusals, for explaining: each says what is there and what is asked.
+
+The model is one that its own rules accept.
+"""
+from .errors import counted
+from .expressions import EntryTexts
+from .findings import Finding
+from .folder import (
+    COVERED,
+    EXPANDED,
+    GRAPH_BODIES,
+    KINDS,
+    TARGET,
+    WAITING,
+    Shape,
+    bodies_of,
+    contents_fault,
+    edge_at,
+    node_size,
+    read_graph,
+    read_model,
+)
+from .limits import CERTAIN, GRAPH_BYTES, LEAST_GRAPH_BYTES, MOST_NODES
+from .names import plain_names
+from .readings import Readings, mentioned
+
+
+def listed(items, none="none"):
+    """`0, 3 and 7`."""
+    items = [str(item) for item in items]
+    return " and ".join([", ".join(items[:-1])] * (len(items) > 1) + items[-1:]) or none
+
+
+class GraphRules:
+    """Rows 12 to 25. `graph` is there once rows 12 to 14 hold, and its edges once row 16 does."""
+
+    def __init__(self, model, data, names=None):
+        self.model = read_model(model)
+        self.data = data
+        self.names = names or plain_names(self.model)
+        self.texts = EntryTexts(self.model.entries, self.names.variables)
+        self.shape = Shape(len(self.model.variables), [command.branches for command in self.model.commands])
+        self.first = [self.model.first_record(c) for c in range(len(self.model.commands))]
+
+    def finding(self):
+        """The first broken rule, or None."""
+        found = self.folder()
+        if found:
+            return found
+        self.graph = read_graph(self.data, self.shape)
+        return self.records() or self.edges() or self.root() or self.rules()
+
+    # ---- rows 12 to 17
+
+    def folder(self):
+        if not LEAST_GRAPH_BYTES <= len(self.data) <= GRAPH_BYTES:
+            there = counted(len(self.data), "byte")
+            return Finding(12, 0, f"the graph has {there}, and a graph folder has {LEAST_GRAPH_BYTES} to {GRAPH_BYTES}")
+        fault = contents_fault(self.data, GRAPH_BODIES, "graph")
+        if fault:
+            return Finding(13, fault[0], fault[1])
+        length, size = len(bodies_of(self.data, GRAPH_BODIES, "graph")[0]), node_size(self.shape.variables)
+        if length % size:
+            of_model = f"a node of this model, with {counted(self.shape.variables, 'variable')}, has {size}"
+            return Finding(14, 0, f"the nodes have {length} bytes, and {of_model}: is it the graph of another model?")
+        if not 1 <= length // size <= MOST_NODES:
+            return Finding(14, 0, f"there are {length // size} nodes, and 1 to {MOST_NODES} may be")
+        return None
+
+    def node(self, n, text, number):
+        return Finding(number, n, f"node {n} {text}", ("node", n))
+
+    def records(self):
+        for n, node in enumerate(self.graph.nodes):
+            why = self.head_fault(node) or self.values_fault(node)
+            if why:
+                return self.node(n, why, 15)
+        return None
+
+    def head_fault(self, node):
+        if node.kind >= len(KINDS):
+            return f"has kind {node.kind}, and kinds are 0 to {len(KINDS) - 1}"
+        if node.value > CERTAIN:
+            return f"holds {node.value}, more than certainty, which is {CERTAIN}"
+        if node.kind != COVERED and node.cover:
+            return f"is {KINDS[node.kind]} and names node {node.cover} as its cover: only a covered node has one; write 0"
+        if node.kind != EXPANDED and node.edges:
+            return f"is {KINDS[node.kind]} and has {counted(node.edges, 'edge')}: only an expanded node has edges"
+        if node.tracked >> self.shape.variables:
+            bit = next(v for v in range(self.shape.variables, 16) if node.tracks(v))
+            return f"tracks variable {bit}, and the model's are 0 to {self.shape.variables - 1}"
+        return None
+
+    def values_fault(self, node):
+        for v, variable in enumerate(self.model.variables):
+            name = self.names.variables[v]
+            if not variable.low <= node.concrete[v] <= variable.high:
+                return f"has {name} = {node.concrete[v]} in its concrete label, and {name} lies in {variable.low}..{variable.high}"
+            if not node.tracks(v) and node.label[v]:
+                return f"does not track {name}, and has {node.label[v]} as its label value: write 0"
+        return None
+
+    def edges(self):
+        body, at = bodies_of(self.data, GRAPH_BODIES, "graph")[1], 0
+        for n, node in enumerate(self.graph.nodes):
+            for e in range(node.edges):
+                edge, size = edge_at(body, at, self.shape)
+                why = self.edge_fault(edge, body, at)
+                if why:
+                    return Finding(16, n, f"edge {e} of node {n} {why}", ("node", n))
+                at += size
+        if at < len(body):
+            over = counted(len(body) - at, "byte")
+            return Finding(16, len(self.graph.nodes), f"{over} of edges are left over after those of the last node")
+        return None
+
+    def edge_fault(self, edge, body, at):
+        if edge is None:
+            left = len(body) - at
+            command = int.from_bytes(body[at : at + 2], "little")
+            if left < 2:
+                return "is not there: the edges end before it"
+            if command >= len(self.shape.branches):
+                return f"names command {command}, and the model's are 0 to {len(self.shape.branches) - 1}"
+            branches = self.shape.branches[command]
+            return f"is cut short: command {command} has {counted(branches, 'branch')}, so it takes {2 + 2 * branches} bytes, and {left} are left"
+        for b, successor in enumerate(edge.successors):
+            if successor >= len(self.graph.nodes):
+                return f"({self.names.command(edge.command)}) leads to node {successor} by branch {b}, and the nodes are 0 to {len(self.graph.nodes) - 1}"
+        return None
+
+    def root(self):
+        for v, variable in enumerate(self.model.variables):
+            there = self.graph.nodes[0].concrete[v]
+            if there != variable.initial:
+                name = self.names.variables[v]
+                return Finding(17, 0, f"node 0 starts with {name} = {there}, the model with {name} = {variable.initial}", ("node", 0))
+        return None
+
+    # ---- rows 18 to 25, node by node
+
+    def rules(self):
+        for n, node in enumerate(self.graph.nodes):
+            found = NodeRules(self, n, node).finding()
+            if found:
+                return found
+        return None
+
+
+class NodeRules:
+    """Rows 18 to 25 of one node."""
+
+    def __init__(self, rules, n, node):
+        self.n, self.node = n, node
+        self.model, self.graph, self.names, self.texts = rules.model, rules.graph, rules.names, rules.texts
+        self.first = rules.first
+        self.advice = ""  # where a rule has several causes, and one its own remedy
+        self.in_label = Readings(self.model.entries, lambda v: node.label[v] if node.tracks(v) else None)
+        self.in_state = Readings(self.model.entries, lambda v: node.concrete[v])
+
+    def finding(self):
+        rows = ((18, self.a1), (19, self.a2), (20, self.b1), (21, self.b2), (22, self.c3), (23, self.c1), (24, self.c2))
+        for number, row in (*rows, (25, self.value)):
+            why = row()
+            if why:
+                state = self.names.state(self.node.concrete)
+                return Finding(number, self.n, f"node {self.n} ({state}) {why}", ("node", self.n), self.advice)
+        return None
+
+    def name(self, v):
+        return self.names.variables[v]
+
+    def unknown_because(self, e):
+        """Which variables an expression mentions that the label does not track."""
+        loose = [self.name(v) for v in sorted(mentioned(self.model.entries, e)) if not self.node.tracks(v)]
+        return f"which does not track {listed(loose)}"
+
+    def a1(self):
+        for v in range(len(self.model.variables)):
+            if self.node.tracks(v) and self.node.label[v] != self.node.concrete[v]:
+                return f"tracks {self.name(v)} = {self.node.label[v]}, and its concrete value is {self.node.concrete[v]}"
+        return None
+
+    def a2(self):
+        target = self.model.target
+        told = f"the target, {self.texts.told(target)},"
+        read = self.in_label.read(target)
+        if self.node.kind == EXPANDED:
+            for c, command in enumerate(self.model.commands):
+                if self.in_label.read(command.guard) is None:
+                    guard = f"the guard of {self.names.command(c)}, {self.texts.told(command.guard)},"
+                    return f"is expanded, and {guard} is unknown in its label, {self.unknown_because(command.guard)}"
+            if read:
+                self.advice = "make it a target node, which holds certainty and has no edges"
+                return f"is expanded, and {told} is true in its label: a target state is not expanded"
+        if self.node.kind in (EXPANDED, TARGET) and read is None:
+            return f"is {KINDS[self.node.kind]}, and {told} is unknown in its label, {self.unknown_because(target)}"
+        if self.node.kind == TARGET and not read:
+            self.advice = "expand it, or let it wait"
+            return f"is a target, and {told} is false in its label"
+        return None
+
+    def b1(self):
+        if self.node.kind != EXPANDED:
+            return None
+        there = [edge.command for edge in self.graph.edges[self.n]]
+        due = [c for c, command in enumerate(self.model.commands) if self.in_label.read(command.guard)]
+        if there == due:
+            return None
+        missing = [c for c in due if c not in there]
+        extra = [c for c in there if c not in due]
+        if missing:
+            c = missing[0]
+            why = f"{self.names.command(c)} is enabled there, {self.texts.told(self.model.commands[c].guard)}, and has no edge"
+        elif extra:
+            c = extra[0]
+            why = f"{self.names.command(c)} has an edge and is not enabled there, {self.texts.told(self.model.commands[c].guard)}"
+        else:
+            why = "each enabled command has one edge, lowest command first"
+        return f"has edges of commands {listed(there)}, and commands {listed(due)} are due: {why}"
+
+    def b2(self):
+        if self.node.kind != EXPANDED:
+            return None
+        for edge in self.graph.edges[self.n]:
+            for b, successor in enumerate(edge.successors):
+                record = self.first[edge.command] + b
+                why = self.follow_fault(self.model.branches[record].assigned, self.graph.nodes[successor], successor)
+                if why:
+                    return f"leads by {self.names.command(edge.command)}, branch {b}, to node {successor}: {why}"
+        return None
+
+    def follow_fault(self, assigned, node, successor):
+        for v, e in enumerate(assigned):
+            result = self.in_state.read(e)
+            if node.concrete[v] != result:
+                self.advice = "successors stand in branch order, and all new values are worked out from the old state"
+                new = f"{self.name(v)}' = {self.texts.told(e)} gives {result}"
+                return f"{new}, and its concrete label has {self.name(v)} = {node.concrete[v]}"
+        for v, e in enumerate(assigned):
+            if not node.tracks(v):
+                continue
+            read = self.in_label.read(e)
+            new = f"it tracks {self.name(v)}, and {self.name(v)}' = {self.texts.told(e)}"
+            if read is None:
+                return f"{new} is unknown in the label of node {self.n}, {self.unknown_because(e)}"
+            if read != node.label[v]:
+                self.advice = "the label value of a tracked variable is the node's concrete value"
+                return f"{new} is {read} in the label of node {self.n}, where the label of node {successor} has {node.label[v]}"
+        return None
+
+    def cover(self):
+        """The node that covers this one, if it is covered and the cover is there."""
+        there = self.node.kind == COVERED and self.node.cover < len(self.graph.nodes)
+        return self.graph.nodes[self.node.cover] if there else None
+
+    def c3(self):
+        if self.node.kind != COVERED:
+            return None
+        cover = self.cover()
+        if cover is None:
+            self.advice = "give the number of a node that is there"
+            return f"is covered by node {self.node.cover}, and the nodes are 0 to {len(self.graph.nodes) - 1}"
+        if self.node.cover == self.n:
+            return "is covered by itself"
+        if cover.kind == COVERED:
+            return f"is covered by node {self.node.cover}, which is itself covered, by node {cover.cover}"
+        return None
+
+    def c1(self):
+        cover = self.cover()
+        for v in range(len(self.model.variables)):
+            if cover and cover.tracks(v) and self.node.concrete[v] != cover.label[v]:
+                return f"is outside the label of its cover, node {self.node.cover}, which has {self.name(v)} = {cover.label[v]}"
+        return None
+
+    def c2(self):
+        cover = self.cover()
+        for v in range(len(self.model.variables)):
+            if not cover or not cover.tracks(v):
+                continue
+            tracked = f"its cover, node {self.node.cover}, tracks {self.name(v)} = {cover.label[v]}"
+            if not self.node.tracks(v):
+                return f"does not track {self.name(v)}, and {tracked}"
+            if self.node.label[v] != cover.label[v]:
+                return f"tracks {self.name(v)} = {self.node.label[v]}, and {tracked}"
+        return None
+
+    def value(self):
+        value = self.node.value
+        if self.node.kind in (WAITING, TARGET) and value != CERTAIN:
+            return f"holds {value}, and a {KINDS[self.node.kind]} node holds {CERTAIN}"
+        cover = self.cover()
+        if cover and value < cover.value:
+            return f"holds {value}, less than its cover, node {self.node.cover}, which holds {cover.value}"
+        for edge in self.graph.edges[self.n] if self.node.kind == EXPANDED else ():
+            asked = self.asked(edge)
+            if value < asked:
+                return f"holds {value}, {self.names.command(edge.command)} asks for {asked} at least"
+        return None
+
+    def asked(self, edge):
+        """The least value that an edge allows."""
+        records = range(self.first[edge.command], self.first[edge.command] + len(edge.successors))
+        weights = [self.model.branches[r].weight for r in records]
+        total = sum(w * self.graph.nodes[s].value for w, s in zip(weights, edge.successors))
+        return -(-total // self.model.total)
+
+
+def graph_finding(model, data, names=None):
+    """The first broken rule of a graph folder, of a model that its own rules accept; or None."""
+    return GraphRules(model, data, names).finding()

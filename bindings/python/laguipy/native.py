@@ -1,0 +1,262 @@
+"""The proved library's calls. Each believes nothing of its arguments, and answers or raises `Refusal`; refused, a row
+that was lent stays as it was. Calls may be made from any number of threads at once.
+
+Folders are bytes. `bytes` are passed as they are; of anything else that holds bytes (bytearray, memoryview, mmap) a copy
+is taken first, because nobody may write to a folder during a call, and only `bytes` cannot be written to.
+
+Rows are lent to be written: any writable buffer of unsigned 4-byte (figures) or signed 2-byte (states) elements, as
+array('I'), array('h') or such an array of numpy. They are written where they stand; nobody else may use them during the
+call, and no two may overlap.
+"""
+import ctypes
+import functools
+import operator
+from array import array
+from typing import NamedTuple
+
+from . import where
+from .limits import MOST_NODES, MOST_VARIABLES
+from .output import RunError
+
+UNIT = ("I", 4)  # a row of figures: unsigned, 4 bytes
+VALUE = ("h", 2)  # a state: signed, 2 bytes
+MOST_SIZE = 2 ** (8 * ctypes.sizeof(ctypes.c_size_t)) - 1
+
+
+class Refusal(Exception):
+    """The first broken rule: its number, and the place returned with it (docs/REFUSALS.md)."""
+
+    def __init__(self, number, place):
+        super().__init__(number, place)
+        self.number = number
+        self.place = place
+
+    def __str__(self):
+        return f"refused {self.number} {self.place}"
+
+    def __eq__(self, other):
+        return isinstance(other, Refusal) and self.args == other.args
+
+    def __hash__(self):
+        return hash(self.args)
+
+
+class Summary(NamedTuple):
+    """What is told of an accepted graph: the root value in units, and how many nodes there are of each kind."""
+
+    root: int
+    waiting: int
+    expanded: int
+    covered: int
+    target: int
+
+    @property
+    def nodes(self):
+        return self.waiting + self.expanded + self.covered + self.target
+
+
+# ---- the library
+
+SIZE = ctypes.c_size_t
+FOLDER = (ctypes.c_char_p, SIZE)
+ROW = (ctypes.c_void_p, SIZE)
+PLACE = ctypes.POINTER(SIZE)
+
+# include/laguipy.h: what each call takes. All return a number but the view.
+CALLS = {
+    "laguipy_model_check": (*FOLDER, PLACE),
+    "laguipy_record_part": (*FOLDER, SIZE, SIZE, PLACE),
+    "laguipy_graph_check": (*FOLDER, *FOLDER, PLACE, PLACE),
+    "laguipy_figure_refusal": (*FOLDER, *FOLDER, SIZE, *ROW, *ROW, PLACE),
+    "laguipy_figure_rows": (*FOLDER, *FOLDER, SIZE, *ROW, *ROW, PLACE),
+    "laguipy_figure": (*FOLDER, *FOLDER, SIZE, *ROW, *ROW, PLACE, PLACE),
+    "laguipy_step": (*FOLDER, *ROW, SIZE, SIZE, *ROW, PLACE),
+}
+
+
+@functools.lru_cache(maxsize=None)
+def loaded():
+    """The shared library, with its calls declared."""
+    path = where.library()
+    try:
+        library = ctypes.CDLL(path)
+        for name, arguments in CALLS.items():
+            call = getattr(library, name)
+            call.argtypes = arguments
+            call.restype = None if name == "laguipy_record_part" else SIZE
+    except (OSError, AttributeError) as error:
+        raise RunError(f"the library cannot be loaded: {error}") from None
+    return library
+
+
+# ---- arguments
+
+
+def folder_bytes(data):
+    """A folder's bytes, which nobody can change."""
+    if isinstance(data, bytes):
+        return data
+    try:
+        view = memoryview(data)
+    except TypeError:
+        raise TypeError(f"a folder is bytes, or something that holds bytes, and this is {type(data).__name__}") from None
+    if view.itemsize != 1:
+        raise TypeError(f"a folder's elements are bytes, and these have {view.itemsize}")
+    return view.obj if isinstance(view.obj, bytes) and view.nbytes == len(view.obj) else view.tobytes()
+
+
+def passed(data):
+    return data, len(data)
+
+
+class Row:
+    """A row that is lent for one call: its elements stand where they are, and its buffer cannot be resized."""
+
+    def __init__(self, row, element, what):
+        code, size = element
+        view = row_view(row, what)
+        if view.itemsize != size or view.format[-1:] not in (("I", "L") if code == "I" else ("h",)):
+            raise TypeError(f"{what} has elements of {size} bytes, {'unsigned' if code == 'I' else 'signed'} "
+                            f"(array({code!r})), and these are {view.format!r} of {view.itemsize}")
+        if view.readonly:
+            raise TypeError(f"{what} is written to, and this one can only be read")
+        self.length = view.nbytes // size
+        # An empty row has an address too.
+        self.held = (ctypes.c_char * view.nbytes).from_buffer(view.cast("B")) if view.nbytes else EMPTY
+        self.address = ctypes.addressof(self.held)
+        if self.address % size:
+            raise ValueError(f"{what} does not start at a multiple of {size} bytes")
+
+    @property
+    def arguments(self):
+        return self.address, self.length
+
+    def overlaps(self, other):
+        return (
+            self.length > 0
+            and other.length > 0
+            and self.address < other.address + len(other.held)
+            and other.address < self.address + len(self.held)
+        )
+
+
+EMPTY = (ctypes.c_uint64 * 1)()
+
+
+def row_view(row, what):
+    try:
+        view = memoryview(row)
+    except TypeError:
+        raise TypeError(f"{what} is a writable buffer, as array('I'), and this is {type(row).__name__}") from None
+    if view.ndim != 1 or not view.c_contiguous:
+        raise TypeError(f"the elements of {what} stand one after the other")
+    return view
+
+
+def two_rows(first, second):
+    rows = Row(first, UNIT, "the first row"), Row(second, UNIT, "the second row")
+    if rows[0].overlaps(rows[1]):
+        raise ValueError("the two rows overlap")
+    return rows
+
+
+def size(number, what):
+    """A number as the library takes it."""
+    number = operator.index(number)
+    if not 0 <= number <= MOST_SIZE:
+        raise ValueError(f"{what} is {number}: it must be 0 to {MOST_SIZE}")
+    return number
+
+
+def units(count):
+    """A row of so many figures, all 0."""
+    return array("I", bytes(4 * count))
+
+
+def answered(number, place):
+    if number:
+        raise Refusal(number, place.value)
+
+
+# ---- the calls
+
+
+def model_check(model):
+    """The model check: refusals 1 to 11."""
+    place = SIZE()
+    answered(loaded().laguipy_model_check(*passed(folder_bytes(model)), place), place)
+
+
+def record_part(model, body, record):
+    """The view: a record of the model folder, by the number of its body (0 terms, 1 variables, 2 expressions, 3 commands, 4
+    branches) and its own, as a memoryview of the folder. It is empty, at the folder's start, where the model check refuses
+    with 1, 2 or 3, or there is no such body or record."""
+    data, part = folder_bytes(model), (SIZE * 2)()
+    loaded().laguipy_record_part(*passed(data), size(body, "the body"), size(record, "the record"), part)
+    return memoryview(data)[part[0] : part[0] + part[1]]
+
+
+def graph_check(model, graph):
+    """The graph check: refusals 1 to 11, then 12 to 25. Accepted, the `Summary`."""
+    place, values = SIZE(), (SIZE * 5)()
+    folders = *passed(folder_bytes(model)), *passed(folder_bytes(graph))
+    answered(loaded().laguipy_graph_check(*folders, place, values), place)
+    return Summary(*values)
+
+
+def figure_refusal(model, graph, h, first, second):
+    """Raises what `figure` would on these arguments; the rows are not written."""
+    place, rows = SIZE(), two_rows(first, second)
+    folders = *passed(folder_bytes(model)), *passed(folder_bytes(graph))
+    lent = *rows[0].arguments, *rows[1].arguments
+    answered(loaded().laguipy_figure_refusal(*folders, size(h, "h"), *lent, place), place)
+
+
+def figure_rows(model, graph, h, first, second):
+    """The figures for h steps, one per node: round h in the first row if h is even, else in the second, and round h - 1 in
+    the other, which is untouched at h = 0. Elements past the node count stay. Refused like `figure`."""
+    place, rows = SIZE(), two_rows(first, second)
+    folders = *passed(folder_bytes(model)), *passed(folder_bytes(graph))
+    lent = *rows[0].arguments, *rows[1].arguments
+    answered(loaded().laguipy_figure_rows(*folders, size(h, "h"), *lent, place), place)
+
+
+def figure(model, graph, h, first=None, second=None):
+    """The figures for h steps, one per node: the part of a row that holds them, as a memoryview. The rows are left as
+    `figure_rows` leaves them; without rows, new ones serve.
+
+    Each figure is an upper bound of the best chance, from that node's concrete state, to reach a target within h steps, and
+    at most h units above it. Refused with the graph check's refusal; then 26 where a node waits, 27 where h is over
+    MOST_STEPS, 28 where a row is shorter than the nodes.
+    """
+    held = [units(MOST_NODES) if row is None else row for row in (first, second)]
+    place, part, rows = SIZE(), (SIZE * 2)(), two_rows(*held)
+    folders = *passed(folder_bytes(model)), *passed(folder_bytes(graph))
+    lent = *rows[0].arguments, *rows[1].arguments
+    answered(loaded().laguipy_figure(*folders, size(h, "h"), *lent, place, part), place)
+    return memoryview(held[part[0]])[: part[1]]
+
+
+def step(model, state, command, branch, result=None):
+    """The step of a state by a branch of a command, also from a target: the new state, as a memoryview of the part of
+    `result` that holds it. Later elements of `result` stay; without one, a new one serves.
+
+    Refused with the model check's refusal; then 29 where the state is not one value per variable or the result row is
+    shorter, 30 where a value is outside its range, 31 where there is no such command, 32 where its guard is false, 33 where
+    it has no such branch.
+    """
+    values = state_values(state)
+    held = array("h", [0] * MOST_VARIABLES) if result is None else result
+    place, given, row = SIZE(), Row(values, VALUE, "the state"), Row(held, VALUE, "the result row")
+    numbers = size(command, "the command"), size(branch, "the branch")
+    call = loaded().laguipy_step
+    answered(call(*passed(folder_bytes(model)), *given.arguments, *numbers, *row.arguments, place), place)
+    return memoryview(held)[: len(values)]
+
+
+def state_values(state):
+    """A state's values, in a row of our own."""
+    try:
+        return array("h", state)
+    except OverflowError:
+        raise ValueError("a value of a state is -32768 to 32767") from None

@@ -1,0 +1,138 @@
+"""`laguipy model`, `graph` and `show`: text to folders that the proved library has checked, and folders to text."""
+import os
+
+from . import native
+from .errors import InputError
+from .findings import MEANING
+from .fold import of
+from .folder import CONTENTS_ENTRY, GRAPH_BODIES, read_graph, read_model, shape_of
+from .graph_rules import graph_finding
+from .graphs import show_graph, write_graph
+from .inputs import STANDARD, load, load_text, model_names, save
+from .model_rules import model_finding
+from .models import show_model, write_model
+from .names import names_path, names_text
+
+
+def named(path):
+    return "standard input" if path == STANDARD else path
+
+
+class Wrong(InputError):
+    """What the proved check refuses of a text, with its line."""
+
+    placed = True
+
+    def __init__(self, path, refusal, finding, line):
+        where = f"{named(path)}:{line}" if line else named(path)
+        told = finding.text if finding else MEANING[refusal.number]
+        super().__init__(f"{where}: {told} [{refusal.number}]")
+        self.refusal, self.path, self.text_line, self.told = refusal, named(path), line, told
+
+    def data(self):
+        refusal = self.refusal
+        return {
+            "answer": "refused",
+            "number": refusal.number,
+            "place": refusal.place,
+            "file": self.path,
+            "line": self.text_line,
+            "message": self.told,
+        }
+
+
+def matching(finding, refusal):
+    """The finding, where it is the one that the proved check refuses."""
+    return finding if finding and (finding.number, finding.place) == (refusal.number, refusal.place) else None
+
+
+def model_of(path):
+    """The model of a text, and what the proved check refuses of it, or None."""
+    written = of(named(path), lambda: write_model(load_text(path)))
+    try:
+        native.model_check(written.data)
+        return written, None
+    except native.Refusal as refusal:
+        found = matching(model_finding(written.data, written.names), refusal)
+        return written, Wrong(path, refusal, found, written.lines.of(found.subject) if found else None)
+
+
+def graph_of(path, model_path, model):
+    """The graph of a text, and what the proved check refuses of it, or None."""
+    names, _ = model_names(model_path, model)
+    of(model_path, lambda: shape_of(model))
+    written = of(named(path), lambda: write_graph(load_text(path), model, names))
+    try:
+        native.graph_check(model, written.data)
+        return written, None
+    except native.Refusal as refusal:
+        return written, refused_graph(path, model_path, model, written, refusal, names)
+
+
+def refused_graph(path, model_path, model, written, refusal, names):
+    of_model = model_finding(model, names)
+    if of_model:
+        return Wrong(model_path, refusal, matching(of_model, refusal), None)
+    found = matching(graph_finding(model, written.data, names), refusal)
+    node = found.subject[1] if found and found.subject[:1] == ("node",) else None
+    return Wrong(path, refusal, found, written.lines[node] if node is not None else None)
+
+
+def default_out(path, out, name):
+    """Where a folder goes: as said, or under this name beside its text."""
+    if out:
+        return out
+    return STANDARD if path == STANDARD else os.path.join(os.path.dirname(path), name)
+
+
+def save_model(out, written, source):
+    """The folder, and its names beside it."""
+    save(out, written.data, [source])
+    save(names_path(out), names_text(written.names, written.data).encode(), [source])
+
+
+# ---- folders to text
+
+
+def is_graph(data):
+    """Whether a folder's table of contents is that of a graph."""
+    return data[:4] == (CONTENTS_ENTRY * len(GRAPH_BODIES)).to_bytes(4, "little")
+
+
+def show(fold, model_path, names, entries):
+    """The text of a folder, and the folder as data."""
+    data = load(fold)
+    if model_path is None and is_graph(data):
+        model_path = os.path.join(os.path.dirname(fold), "model.fold") if fold != STANDARD else None
+        if model_path is None or not os.path.isfile(model_path):
+            raise InputError(f"{named(fold)} is a graph folder: name its model folder too, show GRAPH.fold MODEL.fold")
+    if model_path is None:
+        names = names or model_names(fold, data)[0]
+        return of(named(fold), lambda: show_model(data, names, entries)), model_data(data, names)
+    model = load(model_path)
+    of(named(model_path), lambda: shape_of(model))
+    names = names or model_names(model_path, model)[0]
+    return of(named(fold), lambda: show_graph(data, model, names)), graph_data(data, model)
+
+
+def model_data(data, names):
+    model = read_model(data)
+    given = names.variables if hasattr(names, "variables") else names
+    return {
+        "total": model.total,
+        "target": model.target,
+        "variables": [{"name": given[v], **variable._asdict()} for v, variable in enumerate(model.variables)],
+        "expressions": [list(entry) for entry in model.entries],
+        "commands": [command._asdict() for command in model.commands],
+        "branches": [{"weight": branch.weight, "assigned": list(branch.assigned)} for branch in model.branches],
+    }
+
+
+def graph_data(data, model):
+    graph = read_graph(data, shape_of(model))
+    return {
+        "nodes": [
+            {**node._asdict(), "edges": [edge._asdict() for edge in edges]}
+            for node, edges in zip(graph.nodes, graph.edges)
+        ]
+    }

@@ -1,0 +1,326 @@
+"""The command line as it is run: reports, statuses, standard input and output, and what it says when something is wrong."""
+import json
+import os
+import shutil
+import subprocess
+import sys
+import tempfile
+import unittest
+
+from support import EXAMPLES, ROOT, example, examples, read, run
+
+LAGUIPY = os.path.join(ROOT, "laguipy")
+PEDAL = os.path.join(EXAMPLES, "pedal")
+SCAN = os.path.join(EXAMPLES, "scan_loop")
+
+
+def start(*words, **more):
+    """A process of the command line."""
+    return subprocess.run([sys.executable, LAGUIPY, *words], stdout=subprocess.PIPE, stderr=subprocess.PIPE, check=False, **more)
+
+
+class Room(unittest.TestCase):
+    """A folder of its own for each test."""
+
+    def setUp(self):
+        room = tempfile.TemporaryDirectory()
+        self.addCleanup(room.cleanup)
+        self.room = room.name
+
+    def path(self, name, data=None):
+        path = os.path.join(self.room, name)
+        if data is not None:
+            os.makedirs(os.path.dirname(path), exist_ok=True)
+            with open(path, "wb") as file:
+                file.write(data if isinstance(data, bytes) else data.encode())
+        return path
+
+
+class Check(Room):
+    def test_examples(self):
+        for name in examples():
+            expected = read(os.path.join(EXAMPLES, name, "expected.txt"))
+            folder = os.path.join(EXAMPLES, name)
+            status = 0 if expected.startswith(b"accepted") else 1
+            for words in ((folder,), ("check", folder), ("check", "--any-size", folder)):
+                self.assertEqual(run(*words)[:2], (status, expected), words)
+            files = os.path.join(folder, "model.fold"), os.path.join(folder, "graph.fold")
+            self.assertEqual(run(*files)[:2], (status, expected), name)
+            data = json.loads(run("check", "--json", folder)[1])
+            self.assertEqual(data["answer"], expected.split()[0].decode())
+
+    def test_as_a_process(self):
+        came = start(PEDAL)
+        self.assertEqual((came.returncode, came.stdout), (0, read(os.path.join(PEDAL, "expected.txt"))))
+        self.assertIn(b"node 1 is a dead end", came.stderr)
+        self.assertEqual(start("-q", PEDAL).stderr, b"")
+        self.assertEqual(start().stdout, came.stdout)
+
+    def test_json(self):
+        data = json.loads(run("check", "--json", PEDAL)[1])
+        self.assertEqual((data["nodes"], data["expanded"], data["root"], data["within"][2]), (6, 3, 10_000_000, 10_000_000))
+        self.assertEqual(len(data["warnings"]), 1)
+        data = json.loads(run("check", "--json", os.path.join(EXAMPLES, "refused_22"))[1])
+        self.assertEqual((data["number"], data["place"]), (22, 3))
+
+    def test_standard_input(self):
+        model, graph = (os.path.join(PEDAL, name) for name in ("model.fold", "graph.fold"))
+        expected = read(os.path.join(PEDAL, "expected.txt"))
+        self.assertEqual(start(model, "-", input=read(graph)).stdout, expected)
+        self.assertEqual(start("check", "-", graph, input=read(model)).stdout, expected)
+        self.assertEqual(start("-", "-").returncode, 2)
+
+    def test_no_file(self):
+        status, out, said = run(self.room)
+        self.assertEqual((status, out), (1, b"no file\n"))
+        self.assertIn("model.fold: No such file", said)
+
+    def test_too_long(self):
+        model, graph = example("pedal")
+        folder = os.path.dirname(self.path("big/graph.fold", graph + bytes(65_537 - len(graph))))
+        self.path("big/model.fold", model)
+        status, out, said = run(folder)
+        self.assertEqual((status, out), (1, b"too long\n"))
+        self.assertIn(f"laguipy check --any-size {folder}", said)
+        self.assertEqual(run("check", "--any-size", folder)[:2], (1, b"refused 13 1\n"))
+
+    def test_a_graph_that_the_program_does_not_take(self):
+        nodes = [f"node {n} covered by 1 value 0 tracks a=3 state a=3 d=0\n" for n in range(6, 4096)]
+        text = read(os.path.join(PEDAL, "pedal.graph"), "r") + "".join(nodes)
+        model = os.path.join(PEDAL, "model.fold")
+        graph = self.path("large.fold")
+        self.assertEqual(run("graph", self.path("large.graph", text), "-m", model, "-o", graph)[0], 0)
+        self.assertEqual(run(model, graph)[:2], (1, b"too long\n"))
+        status, out, _ = run("check", "--any-size", model, graph)
+        self.assertEqual((status, out.split()[1]), (0, b"4096"))
+        self.assertEqual(run("figures", model, graph, "50")[1], b"within 50 10000000 1 %\n")
+
+    def test_usage(self):
+        for words in (("nowhere",), (PEDAL, "x", "y"), ("--nothing",), (os.path.join(PEDAL, "model.fold"),), (PEDAL, PEDAL)):
+            status, out, said = run(*words)
+            self.assertEqual((status, out), (2, b""), words)
+            self.assertTrue(said)
+
+    def test_warnings(self):
+        """A mistyped guard, a variable that nothing reads, a dead end."""
+        model = "total 1\nvariable a 0..3 = 0\nvariable unread 0..9 = 0\ntarget a = 3\ncommand lost: a = 2\n  1: a' = 3\n"
+        self.path("m/s.model", model)
+        self.path("m/s.graph", "node 0 expanded value 0 tracks a state a=0 unread=0\n")
+        self.assertEqual(run("model", self.path("m/s.model"))[0], 0)
+        self.assertEqual(run("graph", self.path("m/s.graph"))[0], 0)
+        status, out, said = run(os.path.join(self.room, "m"))
+        self.assertEqual((status, out.split(b"\n")[1]), (0, b"root 0"))
+        for line in ("node 0 is a dead end", "command 0 (lost): its guard, a = 2, is true in no", "variable unread: no expression"):
+            self.assertIn(line, said)
+
+
+class Figures(unittest.TestCase):
+    def lines(self, *words):
+        status, out, _ = run("figures", *words)
+        self.assertEqual(status, 0)
+        return out.decode().splitlines()
+
+    def test_scan_loop(self):
+        self.assertEqual(self.lines(SCAN, "1000"), ["within 1000 77667614 7.7667614 %"])
+        self.assertEqual(self.lines(SCAN, "3", "0"), ["within 0 0 0 %", "within 3 81092 0.0081092 %"])
+
+    def test_forms(self):
+        self.assertEqual(self.lines(PEDAL, "2", "--nodes", "2,5")[1], "within 2 node 5 1000000000 100 %")
+        self.assertEqual(len(self.lines(PEDAL, "2", "--nodes", "all")), 6)
+        self.assertEqual(self.lines(PEDAL, "--upto", "3", "--csv")[:2], ["h,node,units,percent", "0,0,0,0"])
+        data = json.loads("".join(self.lines(PEDAL, "2", "--json")))
+        self.assertEqual(data["figures"], [{"h": 2, "node": 0, "units": 10_000_000, "percent": "1"}])
+
+    def test_every_step_is_the_call_of_its_own(self):
+        from laguipy import figure
+
+        for name in ("pedal", "scan_loop", "dead_converter_explored"):
+            model, graph = example(name)
+            lines = self.lines(os.path.join(EXAMPLES, name), "--upto", "300", "7000", "--nodes", "all", "--csv")[1:]
+            due = []
+            for h in [*range(301), 7000]:
+                due += [f"{h},{n},{u}" for n, u in enumerate(figure(model, graph, h))]
+            self.assertEqual([line.rsplit(",", 1)[0] for line in lines], due, name)
+
+    def test_refused(self):
+        self.assertEqual(run("figures", PEDAL, "10001")[:2], (1, b"refused 27 0\n"))
+        self.assertEqual(run("figures", PEDAL, "--upto", "99999")[:2], (1, b"refused 27 0\n"))
+        self.assertEqual(run("figures", os.path.join(EXAMPLES, "refused_22"), "3")[:2], (1, b"refused 22 3\n"))
+
+    def test_usage(self):
+        for words in ((PEDAL,), (PEDAL, "-1"), (PEDAL, "1", "--nodes", "6"), (PEDAL, "1", "--nodes", "x"), (PEDAL, "--upto", "x")):
+            self.assertEqual(run("figures", *words)[0], 2, words)
+
+
+class Texts(Room):
+    def scan(self, old, new):
+        """The scan loop's model with one change."""
+        text = read(os.path.join(SCAN, "scan.model"), "r")
+        self.assertIn(old, text)
+        return self.path("scan.model", text.replace(old, new, 1))
+
+    def told(self, path, *words):
+        status, _, said = run("model", path, *words)
+        self.assertEqual(status, 1)
+        self.assertFalse(os.path.exists(self.path("model.fold")))
+        return said.splitlines()[0].replace(self.room + os.sep, "")
+
+    def test_what_the_proved_check_refuses(self):
+        said = {
+            ("9989:", "9984:"): "scan.model:14: command 0 (scan): the weights total 9995, D is 10000 [11]",
+            ("smaller(age + 1, 3)", "age + 1"): "scan.model:16: age + 1 lies in 1..4, age in 0..3: write smaller(age + 1, 3) [10]",
+            ("3 - knob", "2 - knob"): "scan.model:26: 2 - knob lies in -1..2, knob in 0..3: write larger(2 - knob, 0) [10]",
+            ("knob 0..3 = 0", "knob 0..3 = 9"): "scan.model:8: variable knob: its initial value 9 is outside its range 0..3 [4]",
+            ("knob 0..3 = 0", "knob 3..0 = 0"): "scan.model:8: variable knob: its range 3..0 has its bounds crossed [4]",
+            ("age = 3", "age * 30000 * 30000 = 3"): "scan.model:11: age * 30000 * 30000 lies in 0..2700000000, and numbers stay in -1000000..1000000 [6]",
+        }
+        for (old, new), line in said.items():
+            self.assertEqual(self.told(self.scan(old, new)), line)
+        deep = "age" + " + age" * 12 + " - age * 12 = 3"
+        self.assertIn("[5]", self.told(self.scan("age = 3", deep)))
+        many = "".join(f"variable x{i} 0..1 = 0\n" for i in range(14))
+        self.assertEqual(
+            self.told(self.scan("# An old", many + "# An old")), "scan.model:23: there are 17 variables, and 1 to 16 may be [3]"
+        )
+
+    def test_anyway(self):
+        path = self.scan("9989:", "9984:")
+        status, _, said = run("model", path, "--anyway")
+        self.assertEqual(status, 0)
+        self.assertIn("[11]", said)
+        self.path("graph.fold", b"")
+        self.assertEqual(run(self.room)[:2], (1, b"refused 11 0\n"))
+        self.assertIn(b"the weights total 9995, D is 10000", run("explain", self.room)[1])
+
+    def test_graph_lines(self):
+        text = read(os.path.join(SCAN, "scan.graph"), "r").replace("covered by 0 ", "covered by 6 ")
+        words = ("graph", self.path("scan.graph", text), "-m", os.path.join(SCAN, "model.fold"), "-o", self.path("g.fold"))
+        status, _, said = run(*words)
+        self.assertEqual(status, 1)
+        self.assertIn("scan.graph:19: node 5 (age = 0, dead = 0, knob = 3) is covered by node 6, which is itself covered", said)
+        self.assertFalse(os.path.exists(self.path("g.fold")))
+        data = json.loads(run(*words, "--json")[1])
+        self.assertEqual((data["number"], data["place"], data["line"]), (22, 5, 19))
+
+    def test_standard_input_and_output(self):
+        text = read(os.path.join(SCAN, "scan.model"))
+        came = start("model", "-", input=text)
+        self.assertEqual((came.returncode, came.stdout), (0, read(os.path.join(SCAN, "model.fold"))))
+        came = start("graph", "-", "-m", os.path.join(SCAN, "model.fold"), "-o", "-", input=read(os.path.join(SCAN, "scan.graph")))
+        self.assertEqual((came.returncode, came.stdout), (0, read(os.path.join(SCAN, "graph.fold"))))
+        came = start("show", "-", input=read(os.path.join(PEDAL, "model.fold")))
+        self.assertEqual((came.returncode, came.stdout.split()[:2]), (0, [b"total", b"10"]))
+
+    def test_nothing_is_lost(self):
+        """A text that is wrong, a folder that would be written over its text, and one that cannot be written."""
+        old = self.path("model.fold", b"old")
+        run("model", self.scan("9989:", "9984:"))
+        self.assertEqual(read(old), b"old")
+        text = self.scan("9989:", "9989:")
+        self.assertEqual(run("model", text, "-o", text)[0], 1)
+        self.assertIn("total", read(text, "r"))
+        self.assertEqual(run("model", text, "-o", self.path("no/such/folder.fold"))[0], 1)
+        self.assertEqual([name for name in os.listdir(self.room) if name.startswith(".laguipy")], [])
+
+    def test_names_beside_the_model(self):
+        folder = self.path("copy")
+        shutil.copytree(os.path.join(EXAMPLES, "refused_21"), folder)
+        self.assertIn(b"it tracks d", run("explain", folder)[1])
+        names = os.path.join(folder, "model.names")
+        os.remove(names)
+        self.assertIn(b"it tracks v1", run("explain", folder)[1])
+        self.path("copy/model.names", "variable x\nvariable y\n")
+        self.assertIn(b"it tracks y", run("explain", folder)[1])
+        self.path("copy/model.names", "variable x\n")
+        status, out, said = run("explain", folder)
+        self.assertIn(b"it tracks v1", out)
+        self.assertIn("model.names: 1 variable named, and the model has 2", said)
+
+    def test_show(self):
+        for name in examples():
+            folder = os.path.join(EXAMPLES, name)
+            self.assertEqual(run("show", folder)[0], 0)
+            self.assertIn("nodes", json.loads(run("show", "--json", folder)[1])["graph"])
+            graph = run("show", os.path.join(folder, "graph.fold"))[1].decode()
+            self.assertTrue(graph.startswith("variables "), name)
+
+
+class Explain(unittest.TestCase):
+    SAID = {
+        "refused_19": "the guard of command 0, a < 2, is unknown in its label, which does not track a",
+        "refused_20": "command 1 is enabled there, a = 0, and has no edge",
+        "refused_21": "it tracks d, and d' = 1 - d is unknown in the label of node 0, which does not track d",
+        "refused_22": "node 3 (a = 0, d = 1) is covered by node 4, which is itself covered, by node 1",
+        "refused_23": "node 4 (a = 3, d = 0) is outside the label of its cover, node 0, which has a = 0",
+        "refused_24": "node 3 (a = 0, d = 1) does not track a, and its cover, node 0, tracks a = 0",
+        "refused_25": "node 0 (a = 0, d = 0) holds 9999999, command 0 asks for 10000000 at least",
+    }
+
+    def test_examples(self):
+        for name, line in self.SAID.items():
+            status, out, _ = run("explain", os.path.join(EXAMPLES, name))
+            self.assertEqual(status, 1)
+            self.assertIn(line, out.decode())
+            self.assertIn("not part of what is proved. Its number and place are the proved ones", out.decode())
+            data = json.loads(run("explain", "--json", os.path.join(EXAMPLES, name))[1])
+            self.assertTrue(data["agrees"] and line in data["explanation"])
+        self.assertEqual(run("explain", PEDAL)[0], 0)
+
+    def test_one_that_does_not_agree_says_so(self):
+        from laguipy.explain import Explanation
+        from laguipy.findings import Finding
+
+        other = Explanation("refused 25 0", 25, 0, Finding(24, 1, "something else"), False)
+        self.assertIn("does NOT agree", other.lines()[-1])
+        self.assertIn("does NOT agree", Explanation("accepted", 0, 0, Finding(24, 1, "x"), False).lines()[-1])
+        self.assertIn("no broken rule", Explanation("refused 25 0", 25, 0, None, False).lines()[-1])
+
+
+class Output(unittest.TestCase):
+    """What cannot be written is an error, and never `refused`; whoever has read enough may go."""
+
+    WAYS = ((PEDAL,), ("figures", PEDAL, "3"), ("explain", PEDAL), ("show", PEDAL), ("--help",), ("--version",), ("check", "--json", PEDAL))
+
+    @unittest.skipUnless(os.path.exists("/dev/full"), "no /dev/full")
+    def test_no_room(self):
+        for words in self.WAYS:
+            with open("/dev/full", "wb") as full:
+                came = subprocess.run([sys.executable, LAGUIPY, *words], stdout=full, stderr=subprocess.PIPE, check=False)
+            self.assertEqual(came.returncode, 3, words)
+            self.assertIn(b"the output cannot be written: No space left", came.stderr)
+            self.assertNotIn(b"Traceback", came.stderr)
+
+    def test_closed(self):
+        for words in self.WAYS:
+            line = 'exec "$@" >&-'
+            came = subprocess.run(["sh", "-c", line, "sh", sys.executable, LAGUIPY, *words], stderr=subprocess.PIPE, check=False)
+            self.assertEqual(came.returncode, 3, words)
+            self.assertNotIn(b"Traceback", came.stderr)
+
+    def test_pipe_that_is_gone(self):
+        for words in self.WAYS:
+            end, pipe = os.pipe()
+            os.close(end)
+            came = subprocess.run([sys.executable, LAGUIPY, *words, ], stdout=pipe, stderr=subprocess.PIPE, check=False)
+            os.close(pipe)
+            self.assertEqual(came.returncode, 141, words)
+            self.assertNotIn(b"Traceback", came.stderr)
+            self.assertNotIn(b"cannot be written", came.stderr)
+
+    def test_help_and_version(self):
+        for words in ((), ("check",), ("figures",), ("model",), ("graph",), ("show",), ("explain",)):
+            self.assertEqual(run(*words, "--help")[0], 0, words)
+            status, out, _ = run(*words, "--version")
+            self.assertEqual((status, out.split()[:2]), (0, [b"laguipy", read(os.path.join(ROOT, "VERSION")).strip()]), words)
+
+
+class AtOnce(unittest.TestCase):
+    def test_many_at_once(self):
+        expected = read(os.path.join(SCAN, "expected.txt"))
+        running = [subprocess.Popen([sys.executable, LAGUIPY, "-q", SCAN], stdout=subprocess.PIPE) for _ in range(8)]
+        for one in running:
+            self.assertEqual((one.communicate()[0], one.returncode), (expected, 0))
+
+
+if __name__ == "__main__":
+    unittest.main()

@@ -1,0 +1,226 @@
+"""The library's calls from Python: answers, rows at exit, and arguments that would not be safe."""
+import json
+import mmap
+import os
+import tempfile
+import threading
+import unittest
+from array import array
+
+from support import example, read
+
+import laguipy
+from laguipy import Refusal, native
+
+MODEL, GRAPH = example("pedal")
+FIGURES = [10_000_000, 0, 100_000_000, 10_000_000, 0, laguipy.CERTAIN]
+
+
+def rows(first=8, second=8):
+    return array("I", [9] * first), array("I", [9] * second)
+
+
+class Answers(unittest.TestCase):
+    def test_pedal(self):
+        self.assertIsNone(laguipy.model_check(MODEL))
+        self.assertEqual(laguipy.graph_check(MODEL, GRAPH), (10_000_000, 0, 3, 2, 1))
+        self.assertEqual(laguipy.graph_check(MODEL, GRAPH).nodes, 6)
+        self.assertEqual(laguipy.figure(MODEL, GRAPH, 2).tolist(), FIGURES)
+        self.assertEqual(laguipy.step(MODEL, [0, 0], 0, 1).tolist(), [1, 0])
+        self.assertEqual(bytes(laguipy.record_part(MODEL, 0, 0)), bytes((10, 0, 8, 0)))
+        self.assertEqual(bytes(laguipy.record_part(MODEL, 5, 0)), b"")
+
+    def refused(self, call, *arguments):
+        with self.assertRaises(Refusal) as caught:
+            call(*arguments)
+        return caught.exception.number, caught.exception.place
+
+    def test_refusals(self):
+        self.assertEqual(self.refused(laguipy.model_check, b""), (1, 0))
+        self.assertEqual(self.refused(laguipy.graph_check, MODEL, GRAPH[1:]), (13, 0))
+        self.assertEqual(self.refused(laguipy.figure, MODEL, GRAPH, 10_001), (27, 0))
+        self.assertEqual(self.refused(laguipy.figure, MODEL, GRAPH, 1, *rows(5, 8)), (28, 0))
+        self.assertEqual(self.refused(laguipy.figure_refusal, MODEL, GRAPH, 1, *rows(8, 5)), (28, 1))
+        self.assertEqual(self.refused(laguipy.step, MODEL, [1, 0], 1, 0), (32, 1))
+        self.assertEqual(self.refused(laguipy.step, MODEL, [0], 0, 0), (29, 0))
+        self.assertEqual(self.refused(laguipy.step, MODEL, [0, 0], 2**64 - 1, 0), (31, 2**64 - 1))
+        self.assertEqual(str(Refusal(25, 3)), "refused 25 3")
+        self.assertEqual(Refusal(25, 3), Refusal(25, 3))
+
+    def test_rows(self):
+        first, second = rows()
+        part = laguipy.figure(MODEL, GRAPH, 3, first, second)
+        self.assertEqual((part.tolist(), part.obj is second), (FIGURES, True))
+        self.assertEqual(first.tolist(), FIGURES + [9, 9])
+        for h in range(4):
+            (one, two), (three, four) = rows(), rows(7, 9)
+            laguipy.figure_rows(MODEL, GRAPH, h, one, two)
+            laguipy.figure(MODEL, GRAPH, h, three, four)
+            self.assertEqual((one.tolist()[:7], two.tolist() + [9]), (three.tolist(), four.tolist()))
+        laguipy.figure_refusal(MODEL, GRAPH, 3, *rows())
+
+    def test_refused_rows_stay(self):
+        for call in (laguipy.figure, laguipy.figure_rows, laguipy.figure_refusal):
+            first, second = rows()
+            self.assertEqual(self.refused(call, MODEL, GRAPH[:-1], 3, first, second)[0], 13)
+            self.assertEqual((first, second), rows())
+        result = array("h", [7] * 4)
+        self.assertEqual(self.refused(laguipy.step, MODEL, [9, 0], 0, 1, result), (30, 0))
+        self.assertEqual(result.tolist(), [7] * 4)
+        self.assertEqual(laguipy.step(MODEL, [0, 0], 0, 1, result).tolist(), [1, 0])
+        self.assertEqual(result.tolist(), [1, 0, 7, 7])
+
+
+class Arguments(unittest.TestCase):
+    """What holds bytes is taken; what would not be safe is refused before the library sees it."""
+
+    def test_folders(self):
+        for make in (bytes, bytearray, memoryview, lambda data: memoryview(bytearray(data)), lambda data: array("B", data)):
+            self.assertEqual(laguipy.graph_check(make(MODEL), make(GRAPH)).root, 10_000_000)
+        spread = memoryview(bytes(b for byte in MODEL for b in (byte, 0)))[::2]
+        self.assertIsNone(laguipy.model_check(spread))
+        with tempfile.TemporaryFile() as file:
+            file.write(MODEL)
+            file.flush()
+            with mmap.mmap(file.fileno(), 0, access=mmap.ACCESS_READ) as mapped:
+                self.assertIsNone(laguipy.model_check(mapped))
+
+    def test_bytes_are_not_copied(self):
+        self.assertIs(native.folder_bytes(MODEL), MODEL)
+        self.assertIs(native.folder_bytes(memoryview(MODEL)), MODEL)
+        self.assertIs(laguipy.record_part(MODEL, 1, 0).obj, MODEL)
+        changing = bytearray(MODEL)
+        self.assertIsNot(native.folder_bytes(changing), changing)
+
+    def test_wrong_folders(self):
+        for data in ("text", None, 7, [1, 2], array("I", [1])):
+            with self.assertRaises(TypeError):
+                laguipy.model_check(data)
+
+    def test_wrong_rows(self):
+        good = rows()[0]
+        wrong = (None, 5, [0] * 8, bytes(32), array("i", [0] * 8), array("Q", [0] * 8), array("H", [0] * 8), b"")
+        for row in (*wrong, memoryview(bytes(32)).cast("I"), memoryview(good)[::2]):
+            with self.assertRaises((TypeError, ValueError), msg=repr(row)):
+                laguipy.figure_rows(MODEL, GRAPH, 1, good, row)
+            with self.assertRaises((TypeError, ValueError), msg=repr(row)):
+                laguipy.figure_rows(MODEL, GRAPH, 1, row, good)
+
+    def test_alignment_and_overlap(self):
+        room = bytearray(64)
+        with self.assertRaises((TypeError, ValueError)):
+            laguipy.figure_rows(MODEL, GRAPH, 1, rows()[0], memoryview(room)[1:33].cast("I"))
+        whole = memoryview(array("I", [0] * 12))
+        with self.assertRaises(ValueError):
+            laguipy.figure_rows(MODEL, GRAPH, 1, whole[:8], whole[4:])
+        with self.assertRaises(ValueError):
+            laguipy.figure_rows(MODEL, GRAPH, 1, whole, whole)
+        apart = memoryview(array("I", [0] * 12))
+        laguipy.figure_rows(MODEL, GRAPH, 1, apart[:6], apart[6:])
+        self.assertEqual(apart.tolist()[6:], [0, 0, 100_000_000, 0, 0, laguipy.CERTAIN])
+
+    def test_empty_rows(self):
+        with self.assertRaises(Refusal) as caught:
+            laguipy.figure_rows(MODEL, GRAPH, 1, array("I"), array("I"))
+        self.assertEqual(caught.exception, Refusal(28, 0))
+
+    def test_numbers(self):
+        for h in (-1, 2**64):
+            with self.assertRaises(ValueError):
+                laguipy.figure(MODEL, GRAPH, h)
+        with self.assertRaises(TypeError):
+            laguipy.figure(MODEL, GRAPH, 1.5)
+        with self.assertRaises(ValueError):
+            laguipy.step(MODEL, [40_000, 0], 0, 0)
+        with self.assertRaises(TypeError):
+            laguipy.step(MODEL, ["a"], 0, 0)
+
+    def test_a_lent_row_can_be_resized_again(self):
+        first, second = rows()
+        laguipy.figure_rows(MODEL, GRAPH, 1, first, second)
+        first.append(1)
+        second.append(1)
+
+    def test_threads(self):
+        wrong = []
+
+        def work():
+            for h in range(200):
+                if laguipy.figure(MODEL, GRAPH, h)[5] != laguipy.CERTAIN:
+                    wrong.append(h)
+
+        running = [threading.Thread(target=work) for _ in range(8)]
+        for thread in running:
+            thread.start()
+        for thread in running:
+            thread.join()
+        self.assertEqual(wrong, [])
+
+
+@unittest.skipUnless(os.environ.get("LAGUIPY_ANSWERS"), "LAGUIPY_ANSWERS names no file of answers")
+class Independent(unittest.TestCase):
+    """Every call against the answers of the independent Rust implementation, which `answers` has written, a line each."""
+
+    def test_answers(self):
+        count = 0
+        with open(os.environ["LAGUIPY_ANSWERS"], encoding="ascii") as file:
+            for line in file:
+                self.compare(json.loads(line))
+                count += 1
+        self.assertGreaterEqual(count, 1_000)
+
+    def answer(self, call, *arguments):
+        try:
+            return {"number": 0, "place": 0}, call(*arguments)
+        except Refusal as refusal:
+            return {"number": refusal.number, "place": refusal.place}, None
+
+    def due(self, case, call):
+        return {key: case["answers"][call][key] for key in ("number", "place")}
+
+    def compare(self, case):
+        model, graph = bytes.fromhex(case["model"]), bytes.fromhex(case["graph"])
+        name = f"seed {case['seed']} ({case['name']})"
+        answers = case["answers"]
+        self.assertEqual(self.answer(laguipy.model_check, model)[0], self.due(case, "model"), name)
+        came, summary = self.answer(laguipy.graph_check, model, graph)
+        self.assertEqual(came, self.due(case, "graph"), name)
+        if summary:
+            self.assertEqual(list(summary), answers["graph"]["values"], name)
+        part = laguipy.record_part(model, case["body"], case["record"])
+        start = answers["part"]["start"]
+        self.assertEqual(bytes(part), model[start : start + answers["part"]["length"]], name)
+        self.compare_figures(case, model, graph, name)
+        result = array("h", case["result_before"])
+        came, _ = self.answer(laguipy.step, model, case["state"], case["command"], case["branch"], result)
+        self.assertEqual((came, result.tolist()), (self.due(case, "step"), answers["step"]["result"]), name)
+
+    def compare_figures(self, case, model, graph, name):
+        due = case["answers"]["figure"]
+        for call in (laguipy.figure, laguipy.figure_rows, laguipy.figure_refusal):
+            before = [array("I", case["first_before"]), array("I", case["second_before"])]
+            came, part = self.answer(call, model, graph, case["h"], *before)
+            self.assertEqual(came, self.due(case, "figure"), name)
+            if call is laguipy.figure_refusal:
+                self.assertEqual([row.tolist() for row in before], [case["first_before"], case["second_before"]], name)
+                continue
+            self.assertEqual([row.tolist() for row in before], [due["first_row"], due["second_row"]], name)
+            if part is not None:
+                held = due["second_row"] if due["second"] else due["first_row"]
+                self.assertEqual(part.tolist(), held[: due["nodes"]], name)
+                self.assertIs(part.obj, before[due["second"]], name)
+
+
+class Header(unittest.TestCase):
+    def test_limits_and_version(self):
+        """The numbers of the header are those of the package."""
+        text = read(os.path.join(os.path.dirname(__file__), "..", "..", "..", "include", "laguipy.h"), "r")
+        defined = dict(line.split()[1:3] for line in text.splitlines() if line.startswith("#define LAGUIPY_") and len(line.split()) == 3)
+        names = {"CERTAIN": "CERTAIN", "MOST_NODES": "MOST_NODES", "MOST_VARIABLES": "MOST_VARIABLES", "MOST_STEPS": "MOST_STEPS"}
+        for name, own in {**names, "MODEL_BYTES": "MODEL_BYTES", "GRAPH_BYTES": "GRAPH_BYTES"}.items():
+            self.assertEqual(int(defined[f"LAGUIPY_{name}"]), getattr(laguipy, own), name)
+        self.assertEqual(defined["LAGUIPY_VERSION"].strip('"'), laguipy.__version__)
+
+
+if __name__ == "__main__":
+    unittest.main()
