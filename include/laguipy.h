@@ -36,6 +36,9 @@
 extern "C" {
 #endif
 
+/* The version of this header, and of the library that comes with it. */
+#define LAGUIPY_VERSION "0.2.0"
+
 /* Certainty, in units. */
 #define LAGUIPY_CERTAIN 1000000000
 

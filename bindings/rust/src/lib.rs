@@ -41,6 +41,9 @@
 //!   65,536 bytes; `examples/bench.rs`: how long the calls and the plain ones take
 //!   on the largest inputs.
 
+/// The version of this crate, and of the library that comes with it.
+pub const VERSION: &str = env!("CARGO_PKG_VERSION");
+
 /// Certainty, in units.
 pub const CERTAIN: u32 = 1_000_000_000;
 
