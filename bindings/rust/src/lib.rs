@@ -14,6 +14,21 @@
 //!
 //! Values and figures are whole units; [`CERTAIN`] units are certainty.
 //!
+//! # Linking
+//!
+//! The static library is for x86-64, and has to be there before this crate is
+//! built. `rt staticlib laguipy_c` in Laguipy's repository writes it to
+//! `target/staticlib/liblaguipy_c.a`, where it is found while the crate stands in
+//! the repository. From anywhere else, or for an installed Laguipy, set
+//! `LAGUIPY_LIB_DIR` to the full path of the folder that holds `liblaguipy_c.a` or
+//! `liblaguipy.a`, the name under which it is installed:
+//!
+//! ```text
+//! LAGUIPY_LIB_DIR=/usr/local/lib cargo build
+//! ```
+//!
+//! # Example
+//!
 //! ```
 //! use laguipy::{figure, graph_check, Refusal};
 //!
@@ -28,6 +43,8 @@
 //!
 //! assert_eq!(graph_check(model, &graph[1..]), Err(Refusal { number: 13, place: 0 }));
 //! ```
+//!
+//! # Tests
 //!
 //! Beside the calls, and sharing no code with them:
 //!
