@@ -4,7 +4,7 @@
  * A model and a graph come as folders of bytes (docs/FORMAT.md). Each call believes nothing of them: it names the first
  * broken rule and its place (docs/REFUSALS.md), or accepts. No strategy reaches a target of the model with a greater
  * chance than the root value of an accepted graph. Values and figures are whole units; LAGUIPY_CERTAIN units are
- * certainty. Every call is proved to answer as document 01 defines.
+ * certainty. Every call is proved to answer by these rules, on every input.
  *
  * You, on every call:
  *

@@ -2,15 +2,16 @@
 //!
 //! A *model* is a Markov decision process written as guarded commands with
 //! chances; a *graph* is an explorer's answer about it. Both come as folders of
-//! bytes, laid out as document 01 says. The checker believes nothing of them: it
-//! either names the first broken rule and where, a [`Refusal`], or accepts, with
-//! a [`Summary`]. No strategy reaches a target of the model with a greater chance
-//! than the root value of an accepted graph.
+//! bytes. The checker believes nothing of them: it either names the first broken
+//! rule and where, a [`Refusal`], or accepts, with a [`Summary`]. No strategy
+//! reaches a target of the model with a greater chance than the root value of an
+//! accepted graph. In Laguipy's repository, `docs/FORMAT.md` has the folders byte by
+//! byte, and `docs/REFUSALS.md` the rules, by the number of the refusal.
 //!
 //! The checker itself is a static library, machine-checked: every call is proved
-//! to answer as document 01 defines, on every input, of any content and length.
-//! This crate links it and wraps each call. No call panics, allocates, or keeps
-//! anything; all may be made from any number of threads at once.
+//! to answer by these rules, on every input, of any content and length. This crate
+//! links it and wraps each call. No call panics, allocates, or keeps anything; all
+//! may be made from any number of threads at once.
 //!
 //! Values and figures are whole units; [`CERTAIN`] units are certainty.
 //!
@@ -32,8 +33,8 @@
 //! ```
 //! use laguipy::{figure, graph_check, Refusal};
 //!
-//! let model = include_bytes!("../../../examples/pedal/model.fold");
-//! let graph = include_bytes!("../../../examples/pedal/graph.fold");
+//! let model = include_bytes!("../examples/pedal/model.fold");
+//! let graph = include_bytes!("../examples/pedal/graph.fold");
 //! let summary = graph_check(model, graph).expect("an accepted graph");
 //! assert_eq!(summary.root, 10_000_000);
 //!
@@ -44,12 +45,10 @@
 //! assert_eq!(graph_check(model, &graph[1..]), Err(Refusal { number: 13, place: 0 }));
 //! ```
 //!
-//! # Tests
+//! # Tests and examples
 //!
-//! Beside the calls, and sharing no code with them:
-//!
-//! - `tests/reference`: the same calls in plain Rust, for comparison; it rests on
-//!   document 01 alone;
+//! - `tests/reference`: the same calls in plain Rust, for comparison; it was written
+//!   from the rules alone, and shares no code with the checker;
 //! - `tests/generate`: models and graphs, valid, nearly valid, damaged and at the
 //!   limits, each from a seed (the environment variable `LAGUIPY_CASES` says how
 //!   many seeds the tests take);
@@ -71,9 +70,9 @@ pub const MOST_STEPS: usize = 10_000;
 /// the figures of any.
 pub const MOST_NODES: usize = 4_096;
 
-/// The first broken rule: its number in document 01's table of causes, and the
-/// place returned with it (an entry, a variable, an expression, a node and so on,
-/// as the table says for each number).
+/// The first broken rule: its number, and the place returned with it (an entry, a
+/// variable, an expression, a node and so on). `docs/REFUSALS.md` in Laguipy's
+/// repository says of each number what it means, what its place is and what to do.
 #[derive(Clone, Copy, Debug, PartialEq, Eq, Hash, PartialOrd, Ord)]
 pub struct Refusal {
     pub number: u32,

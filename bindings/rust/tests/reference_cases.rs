@@ -1,5 +1,5 @@
-//! Tests of the reference itself: document 01's cases, the limits, every row of
-//! the table, and the best chances worked out state by state.
+//! Tests of the reference itself: the pedal example and changes to it, the limits,
+//! every number of refusal, and the best chances worked out state by state.
 
 mod generate;
 mod reference;
@@ -876,7 +876,8 @@ fn meaning(model: &ModelData, entry: u16, state: &[i16]) -> i64 {
 /// A state's moves: for each command enabled, weight and next state by branch.
 type Moves = Vec<Vec<(u128, Vec<i16>)>>;
 
-/// P of document 01, each state and number of steps worked out once.
+/// The best chances to reach a target within so many steps, where the total to the
+/// power of the steps is certainty; each state and number of steps worked out once.
 struct Best<'a> {
     model: &'a ModelData,
     moves: HashMap<Vec<i16>, Option<Moves>>,

@@ -1,5 +1,5 @@
 //! Inputs that break rules: one field changed, damaged bytes, and a way to break
-//! each rule of document 01's table.
+//! each rule, by the number of its refusal.
 
 use super::data::*;
 use super::random::Random;

@@ -1,5 +1,6 @@
-//! Document 01 in plain Rust: the calls, with every refusal. It rests on the paper
-//! alone and shares no code with the checker.
+//! The calls in plain Rust, with every refusal. They rest alone on the paper that the
+//! checker is built to, whose folders and rules docs/FORMAT.md and docs/REFUSALS.md
+//! give, and share no code with the checker.
 //!
 //! Every input is answered, whatever its content and length. Entries are shared
 //! between expressions, so depths, ranges and readings are filled upward, once
