@@ -1,38 +1,91 @@
 #!/usr/bin/env bash
 # The static library as its users link it: proves and builds it, runs the tests of the Rust binding against the plain
-# Rust calls, and compiles and runs the C example. Quiet unless something fails.
+# Rust calls, and compiles and runs the Rust and the C example. Quiet unless something fails.
 set -euo pipefail
 cd "$(dirname "$0")/.."
 
-log=$(mktemp)
-trap 'rm -f "$log"' EXIT
+room=$(mktemp -d)
+trap 'rm -rf "$room"' EXIT
+out=$room/out   # what the last command printed
+said=$room/said # what it said on standard error
+# A pipe that nobody reads: opened for both, so that it can be opened to write, and then closed for reading.
+mkfifo "$room/pipe"
+exec 3<>"$room/pipe"
+exec 4>"$room/pipe" 3<&-
 
-# Runs a command, and shows what it said only if it fails.
-quiet() {
-  "$@" >"$log" 2>&1 && return
-  cat "$log" >&2
+fail() { # WORDS
+  cat "$out" "$said" >&2
   echo "failed: $*" >&2
   exit 1
 }
 
+# Runs a command that has to exit with this status.
+ends() { # STATUS COMMAND...
+  local wanted=$1 status=0
+  shift
+  "$@" >"$out" 2>"$said" || status=$?
+  [ "$status" = "$wanted" ] || fail "$* (it exits with $status, not $wanted)"
+}
+to_full() { "$@" >/dev/full; }
+to_nobody() { env --default-signal=PIPE "$@" >&4; }
+
+# What the last command printed, all of it; and what it said on standard error, or that it said nothing.
+prints() { [ "$(cat "$out")" = "$1" ] || fail "this is not what it should print: $1"; }
+says() { grep -qF -- "$1" "$said" || fail "this is not among what it says: $1"; }
+says_nothing() { [ ! -s "$said" ] || fail "it should say nothing"; }
+
 # What a program prints for each example is its expected.txt.
-prints_expected() {
-  local example
+prints_expected() { # PROGRAM
+  local example status
   for example in examples/*/expected.txt; do
     example=${example%/expected.txt}
-    "$@" "$example/model.fold" "$example/graph.fold" >"$log" 2>&1 || true
-    cmp -s "$log" "$example/expected.txt" && continue
-    diff "$log" "$example/expected.txt" >&2 || true
-    echo "failed: $* on $example" >&2
-    exit 1
+    if grep -q ^accepted "$example/expected.txt"; then status=0; else status=1; fi
+    ends "$status" "$1" "$example/model.fold" "$example/graph.fold"
+    prints "$(cat "$example/expected.txt")"
+    says_nothing
   done
 }
 
-quiet rt staticlib laguipy_c
-quiet cargo test --release --offline --manifest-path bindings/rust/Cargo.toml
-quiet cargo build --release --offline --example check --manifest-path bindings/rust/Cargo.toml
-prints_expected bindings/rust/target/release/examples/check
+# How a program ends where it gets as far as to print something, but that cannot be written.
+loses_output() { # PROGRAM NAME WORDS...
+  local program=$1 name=$2
+  shift 2
+  ends 3 to_full "$program" "$@"
+  says "$name: cannot write to standard output: No space left on device"
+  ends 141 to_nobody "$program" "$@"
+}
 
-quiet cc -std=c99 -O2 -Wall -Wextra -Werror -Iinclude examples/embed/embed.c target/staticlib/liblaguipy_c.a \
+# How a program ends where it is not the graph that decides.
+ends_otherwise() { # PROGRAM NAME
+  local model=examples/pedal/model.fold graph=examples/pedal/graph.fold none=examples/none/model.fold line words
+  ends 0 "$1" --version
+  prints "$2 $(cat VERSION)"
+  for line in "" "$model" "--versio" "$model $graph $graph" "--version $model $graph"; do
+    read -r -a words <<<"$line"
+    ends 2 "$1" "${words[@]}"
+    prints ""
+    says "usage: $2 MODEL GRAPH"
+  done
+  ends 1 "$1" "$none" "$graph"
+  prints "no file"
+  says "$2: cannot read $none: No such file or directory"
+  ends 1 "$1" "$model" examples
+  prints "no file"
+  says "$2: cannot read examples: Is a directory"
+  loses_output "$1" "$2" --version
+  loses_output "$1" "$2" "$none" "$graph"
+  loses_output "$1" "$2" examples/refused_25/model.fold examples/refused_25/graph.fold
+  loses_output "$1" "$2" "$model" "$graph"
+  says_nothing
+}
+
+ends 0 rt staticlib laguipy_c
+ends 0 cargo test --release --offline --manifest-path bindings/rust/Cargo.toml
+ends 0 cargo build --release --offline --example check --manifest-path bindings/rust/Cargo.toml
+prints_expected bindings/rust/target/release/examples/check
+ends_otherwise bindings/rust/target/release/examples/check check
+
+ends 0 cc -std=c99 -O2 -Wall -Wextra -Werror -Iinclude examples/embed/embed.c target/staticlib/liblaguipy_c.a \
   -o target/embed
 prints_expected target/embed
+ends_otherwise target/embed embed

@@ -1,47 +1,86 @@
 //! A program over this crate: reads a model and a graph folder and prints the
 //! report that the check program prints. It takes graphs of up to 1,048,576 bytes,
-//! where the check program takes 65,536, and never says `too long`. It exits with
-//! 0 if the graph is accepted, 1 if it is refused, 2 if a file cannot be read.
+//! where the check program takes 65,536, and never says `too long`.
+//!
+//! It exits with 0 if the graph is accepted, 1 if it is refused or a file cannot be
+//! read, 2 for bad usage, 3 if its output cannot be written; standard error says
+//! what is wrong with files and output. A closed pipe ends it quietly, with the 141
+//! that a shell gives for other programs then.
 //!
 //! ```text
 //! cargo run --release --offline --example check -- MODEL GRAPH
+//! cargo run --release --offline --example check -- --version
 //! ```
 
-use laguipy::{figure, graph_check, Refusal, Summary, MOST_NODES};
+use laguipy::{figure, graph_check, Refusal, Summary, MOST_NODES, VERSION};
+use std::ffi::OsString;
+use std::fmt::Display;
+use std::io::{self, ErrorKind, Write};
+use std::path::Path;
 use std::process::ExitCode;
 
-fn check(model: &[u8], graph: &[u8]) -> Result<(), Refusal> {
+const REFUSED: u8 = 1;
+const USAGE: u8 = 2;
+const FAILED: u8 = 3;
+const PIPE_CLOSED: u8 = 141;
+
+/// A line on standard error. `eprintln!` would panic where that is closed too.
+fn say(words: impl Display) {
+    let _ = writeln!(io::stderr(), "{words}");
+}
+
+/// The report of an accepted graph.
+fn report(model: &[u8], graph: &[u8]) -> Result<String, Refusal> {
     let Summary { root, waiting, expanded, covered, target } = graph_check(model, graph)?;
     let nodes = waiting + expanded + covered + target;
-    println!(
-        "accepted {nodes} nodes {expanded} expanded {covered} covered {target} target {waiting} waiting"
+    let mut report = format!(
+        "accepted {nodes} nodes {expanded} expanded {covered} covered {target} target {waiting} waiting\n\
+         root {root}\n"
     );
-    println!("root {root}");
     if waiting == 0 {
         let (mut first, mut second) = (vec![0; MOST_NODES], vec![0; MOST_NODES]);
         for h in 0..=3 {
             let figures = figure(model, graph, h, &mut first, &mut second)?;
-            println!("within {h} {}", figures.first().unwrap_or(&0));
+            report += &format!("within {h} {}\n", figures.first().unwrap_or(&0));
         }
     }
-    Ok(())
+    Ok(report)
+}
+
+/// A file's bytes; where it cannot be read, that is said.
+fn read(name: &OsString) -> Option<Vec<u8>> {
+    let bytes = std::fs::read(name);
+    bytes.map_err(|error| say(format_args!("check: cannot read {}: {error}", Path::new(name).display()))).ok()
+}
+
+/// Does what the words ask for, and gives the status to exit with.
+fn run(words: &[OsString], out: &mut impl Write) -> io::Result<u8> {
+    let (model, graph) = match words {
+        [model, graph] => (model, graph),
+        [word] if word == "--version" => return writeln!(out, "check {VERSION}").map(|()| 0),
+        _ => {
+            say("usage: check MODEL GRAPH\n       check --version");
+            return Ok(USAGE);
+        }
+    };
+    let (Some(model), Some(graph)) = (read(model), read(graph)) else {
+        return writeln!(out, "no file").map(|()| REFUSED);
+    };
+    match report(&model, &graph) {
+        Ok(report) => write!(out, "{report}").map(|()| 0),
+        Err(refusal) => writeln!(out, "{refusal}").map(|()| REFUSED),
+    }
 }
 
 fn main() -> ExitCode {
-    let names: Vec<_> = std::env::args_os().skip(1).collect();
-    let [model, graph] = names.as_slice() else {
-        eprintln!("usage: check MODEL GRAPH");
-        return ExitCode::from(2);
-    };
-    let (Ok(model), Ok(graph)) = (std::fs::read(model), std::fs::read(graph)) else {
-        println!("no file");
-        return ExitCode::from(2);
-    };
-    match check(&model, &graph) {
-        Ok(()) => ExitCode::SUCCESS,
-        Err(refusal) => {
-            println!("{refusal}");
-            ExitCode::FAILURE
+    let words: Vec<_> = std::env::args_os().skip(1).collect();
+    let mut out = io::stdout().lock();
+    let status = run(&words, &mut out).and_then(|status| out.flush().map(|()| status));
+    ExitCode::from(status.unwrap_or_else(|error| {
+        if error.kind() == ErrorKind::BrokenPipe {
+            return PIPE_CLOSED;
         }
-    }
+        say(format_args!("check: cannot write to standard output: {error}"));
+        FAILED
+    }))
 }
