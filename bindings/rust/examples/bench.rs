@@ -61,8 +61,8 @@ fn graph_check(call: &str, model: &[u8], graph: &[u8], runs: usize) {
 }
 
 fn figure(model: &[u8], graph: &[u8], h: usize, runs: usize) {
-    let [mut first, mut second] = [[0; 4_096]; 2];
-    let [mut plain_first, mut plain_second] = [[0; 4_096]; 2];
+    let [mut first, mut second] = [[0; MOST_NODES]; 2];
+    let [mut plain_first, mut plain_second] = [[0; MOST_NODES]; 2];
     report(
         &format!("figure, h = {h}"),
         runs,
@@ -79,7 +79,7 @@ fn figure(model: &[u8], graph: &[u8], h: usize, runs: usize) {
 }
 
 fn step(model: &[u8], state: &[i16], command: usize, branch: usize, runs: usize) {
-    let (mut result, mut plain) = ([0; 16], [0; 16]);
+    let (mut result, mut plain) = ([0; MOST_VARIABLES], [0; MOST_VARIABLES]);
     report(
         "step",
         runs,
@@ -93,10 +93,10 @@ fn step(model: &[u8], state: &[i16], command: usize, branch: usize, runs: usize)
 /// the most to do: its one guard and all 16 assigned entries are of depth 12, an if
 /// or a comparison at each, and every part is the deepest there can be.
 fn shared_parts() -> Vec<u8> {
-    let mut model = plain(16, 4, 1, 1);
+    let mut model = plain(MOST_VARIABLES, 4, 1, 1);
     model.entries[3] = [1, 0, 0, 0];
     let (mut number, mut truth) = (3, 1);
-    for _ in 2..=12 {
+    for _ in 2..=MOST_DEPTH {
         let next = model.entries.len() as u16;
         model.entries.push([7, truth, number, number]);
         model.entries.push([8, number, number, 0]);
@@ -126,8 +126,8 @@ fn even(nodes: usize, commands: usize) -> (Vec<u8>, Vec<u8>) {
 /// How the graph check grows with the nodes and with the edges of each.
 fn growth() {
     for (name, sizes) in [
-        ("nodes, 20 edges each", [(1_024, 20), (2_048, 20), (4_096, 20)]),
-        ("edges of each of 1,024 nodes", [(1_024, 16), (1_024, 32), (1_024, 64)]),
+        ("nodes, 20 edges each", [(MOST_NODES / 4, 20), (MOST_NODES / 2, 20), (MOST_NODES, 20)]),
+        ("edges of each of 1,024 nodes", [(1_024, 16), (1_024, 32), (1_024, MOST_COMMANDS)]),
     ] {
         println!("{name}\n  {:<26} {:>12} {:>12} {:>8}", "graph check", "proved", "plain Rust", "ratio");
         for (nodes, edges) in sizes {
@@ -152,13 +152,13 @@ fn main() {
             figure(&model, &graph, 100, 3);
             figure(&model, &graph, 1_000, 2);
         }
-        figure(&model, &graph, 10_000, 1);
+        figure(&model, &graph, MOST_STEPS, 1);
     }
 
     let model = shared_parts();
     heading("parts shared the most", &model, &[]);
     model_check(&model, 1_000);
-    step(&model, &[0; 16], 0, 0, 100);
+    step(&model, &[0; MOST_VARIABLES], 0, 0, 100);
 
     let (model, graph) = generate::pedal();
     let state = model.initial();

@@ -12,10 +12,11 @@
 //! cargo run --release --offline --example check -- --version
 //! ```
 
-use laguipy::{figure, graph_check, Refusal, Summary, MOST_NODES, VERSION};
+use laguipy::{figure, graph_check, Refusal, Summary, GRAPH_BYTES, MODEL_BYTES, MOST_NODES, VERSION};
 use std::ffi::OsString;
 use std::fmt::Display;
-use std::io::{self, ErrorKind, Write};
+use std::fs::File;
+use std::io::{self, ErrorKind, Read, Write};
 use std::path::Path;
 use std::process::ExitCode;
 
@@ -47,10 +48,16 @@ fn report(model: &[u8], graph: &[u8]) -> Result<String, Refusal> {
     Ok(report)
 }
 
-/// A file's bytes; where it cannot be read, that is said.
-fn read(name: &OsString) -> Option<Vec<u8>> {
-    let bytes = std::fs::read(name);
-    bytes.map_err(|error| say(format_args!("check: cannot read {}: {error}", Path::new(name).display()))).ok()
+/// A file's bytes, at most one more than a folder may have: a longer one is refused,
+/// by its length. Where it cannot be read, that is said.
+fn read(name: &OsString, most: usize) -> Option<Vec<u8>> {
+    let mut bytes = Vec::new();
+    let read = File::open(name).and_then(|file| file.take(most as u64 + 1).read_to_end(&mut bytes));
+    if let Err(error) = read {
+        say(format_args!("check: cannot read {}: {error}", Path::new(name).display()));
+        return None;
+    }
+    Some(bytes)
 }
 
 /// Does what the words ask for, and gives the status to exit with.
@@ -63,7 +70,7 @@ fn run(words: &[OsString], out: &mut impl Write) -> io::Result<u8> {
             return Ok(USAGE);
         }
     };
-    let (Some(model), Some(graph)) = (read(model), read(graph)) else {
+    let (Some(model), Some(graph)) = (read(model, MODEL_BYTES), read(graph, GRAPH_BYTES)) else {
         return writeln!(out, "no file").map(|()| REFUSED);
     };
     match report(&model, &graph) {

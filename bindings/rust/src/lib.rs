@@ -70,6 +70,19 @@ pub const MOST_STEPS: usize = 10_000;
 /// the figures of any.
 pub const MOST_NODES: usize = 4_096;
 
+/// The most variables that a model may have: a result row of this length is long
+/// enough for any step.
+pub const MOST_VARIABLES: usize = 16;
+
+/// The most bytes that a model folder may have.
+pub const MODEL_BYTES: usize = 40_000;
+
+/// The most bytes that a graph folder may have.
+pub const GRAPH_BYTES: usize = 1_048_576;
+
+/// The highest number of a refusal.
+pub const LAST_REFUSAL: u32 = 33;
+
 /// The first broken rule: its number, and the place returned with it (an entry, a
 /// variable, an expression, a node and so on). `docs/REFUSALS.md` in Laguipy's
 /// repository says of each number what it means, what its place is and what to do.
@@ -168,7 +181,7 @@ mod c {
     }
 }
 
-/// Number and place as an answer; numbers are at most 33.
+/// Number and place as an answer; numbers are at most [`LAST_REFUSAL`].
 fn outcome(number: usize, place: usize) -> Result<(), Refusal> {
     match number {
         0 => Ok(()),

@@ -7,7 +7,7 @@ mod reference;
 use generate::large::Large;
 use generate::limits::limits;
 use generate::*;
-use laguipy::Refusal;
+use laguipy::{Refusal, LAST_REFUSAL, MOST_NODES, MOST_STEPS, MOST_VARIABLES};
 use std::ops::Range;
 
 /// How many inputs the test over seeds takes: at least one, so that it never passes
@@ -103,11 +103,14 @@ impl Drop for Seed {
     }
 }
 
+/// Acceptance, and every refusal.
+const NUMBERS: usize = LAST_REFUSAL as usize + 1;
+
 /// How often each number was answered, by call.
-type Tally = [[usize; 4]; 34];
+type Tally = [[usize; 4]; NUMBERS];
 
 fn compare_seeds(seeds: Range<u64>) -> Tally {
-    let mut tally = [[0; 4]; 34];
+    let mut tally = [[0; 4]; NUMBERS];
     for seed in seeds {
         let _said = Seed(seed);
         let input = input(seed);
@@ -122,7 +125,7 @@ fn compare_seeds(seeds: Range<u64>) -> Tally {
 fn random_inputs() {
     let count = cases();
     let threads = std::thread::available_parallelism().map_or(1, usize::from) as u64;
-    let mut tally = [[0; 4]; 34];
+    let mut tally = [[0; 4]; NUMBERS];
     std::thread::scope(|scope| {
         let part = |k: u64| k * count / threads..(k + 1) * count / threads;
         let running: Vec<_> = (0..threads).map(|k| scope.spawn(move || compare_seeds(part(k)))).collect();
@@ -143,6 +146,15 @@ fn random_inputs() {
             assert!(counts.iter().any(|&count| count > 0), "no input is refused with {number}");
         }
     }
+}
+
+#[test]
+fn limits_of_the_crate() {
+    assert_eq!(
+        [laguipy::MODEL_BYTES, laguipy::GRAPH_BYTES, MOST_VARIABLES, MOST_NODES, MOST_STEPS],
+        [data::MODEL_BYTES, data::GRAPH_BYTES, data::MOST_VARIABLES, data::MOST_NODES, data::MOST_STEPS]
+    );
+    assert_eq!([laguipy::CERTAIN, LAST_REFUSAL], [data::CERTAIN, data::LAST_REFUSAL]);
 }
 
 #[test]
@@ -197,8 +209,9 @@ fn pedal_cut_short() {
 
 fn compare_large(large: Large, h: usize) {
     let Large { name, model, graph, state, command, branch } = large;
-    let (rows, result) = ([4_096, 4_097], 17);
-    let input = Input { name, model, graph, h, rows, state, command, branch, result, body: 4, record: 1_023 };
+    let (rows, result) = ([MOST_NODES, MOST_NODES + 1], MOST_VARIABLES + 1);
+    let (body, record) = (4, data::MOST_BRANCH_RECORDS - 1);
+    let input = Input { name, model, graph, h, rows, state, command, branch, result, body, record };
     assert_eq!(compare(&input), [0; 4], "{name}");
 }
 
@@ -206,5 +219,5 @@ fn compare_large(large: Large, h: usize) {
 fn largest_inputs() {
     compare_large(large::deep_check(), 7);
     compare_large(large::figures(true), 40);
-    compare_large(large::figures(false), 10_000);
+    compare_large(large::figures(false), MOST_STEPS);
 }

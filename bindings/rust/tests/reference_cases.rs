@@ -6,6 +6,7 @@ mod reference;
 
 use generate::data::*;
 use generate::explore::{Plan, Values};
+use generate::large::LONGEST_EDGE;
 use generate::limits::limits;
 use generate::random::Random;
 use generate::*;
@@ -273,8 +274,8 @@ fn rows_of_the_model_by_field() {
     check_cases(&[
         // Row 4.
         ("crossed", |m, _| m.variables[0] = [3, 0, 0], Some((4, 0))),
-        ("low under", |m, _| m.variables[1] = [-30_001, 1, 0], Some((4, 1))),
-        ("high over", |m, _| m.variables[1] = [0, 30_001, 0], Some((4, 1))),
+        ("low under", |m, _| m.variables[1] = [-BOUND - 1, 1, 0], Some((4, 1))),
+        ("high over", |m, _| m.variables[1] = [0, BOUND + 1, 0], Some((4, 1))),
         ("initial under", |m, _| m.variables[1][2] = -1, Some((4, 1))),
         ("initial over", |m, _| m.variables[1][2] = 2, Some((4, 1))),
         // Row 5.
@@ -686,17 +687,18 @@ fn limits_are_kept() {
 fn large_inputs_are_accepted() {
     let large = large::deep_check();
     let summary = graph_check(&large.model, &large.graph).unwrap();
-    assert_eq!(summary.expanded, 4_096);
-    assert!((1_048_576 - 34..=1_048_576).contains(&large.graph.len()));
+    assert_eq!(summary.expanded, MOST_NODES);
+    // There is no room for one edge more.
+    assert!((GRAPH_BYTES - LONGEST_EDGE + 1..=GRAPH_BYTES).contains(&large.graph.len()));
     assert_eq!(large.model.len(), 39_308);
-    let mut result = [0; 16];
+    let mut result = [0; MOST_VARIABLES];
     assert_eq!(step(&large.model, &large.state, large.command, large.branch, &mut result), Ok(()));
     for changing in [true, false] {
         let large = large::figures(changing);
         let summary = graph_check(&large.model, &large.graph).unwrap();
-        assert_eq!((summary.expanded, summary.target), (4_095, 1));
-        let last = figures(&large.model, &large.graph, 4_096, 20).unwrap();
-        let next = figures(&large.model, &large.graph, 4_096, 21).unwrap();
+        assert_eq!((summary.expanded, summary.target), (MOST_NODES - 1, 1));
+        let last = figures(&large.model, &large.graph, MOST_NODES, 20).unwrap();
+        let next = figures(&large.model, &large.graph, MOST_NODES, 21).unwrap();
         assert_eq!(last != next, changing);
     }
 }
@@ -788,7 +790,7 @@ fn run_all(input: &Input) -> [Option<Refusal>; 4] {
 
 #[test]
 fn every_number_is_reached() {
-    let mut numbers = [[0usize; 4]; 34];
+    let mut numbers = [[0usize; 4]; LAST_REFUSAL as usize + 1];
     let mut kinds: Vec<(&str, usize, usize)> = Vec::new();
     for seed in 0..cases() {
         let input = input(seed);

@@ -45,6 +45,28 @@ pub const TARGET: u16 = 3;
 
 pub const CERTAIN: u32 = 1_000_000_000;
 
+// The limits, as the rules give them: a test compares the crate's own with these.
+pub const MODEL_BYTES: usize = 40_000;
+pub const GRAPH_BYTES: usize = 1_048_576;
+pub const MOST_VARIABLES: usize = 16;
+pub const MOST_ENTRIES: usize = 512;
+pub const MOST_COMMANDS: usize = 64;
+/// Of a command.
+pub const MOST_BRANCHES: usize = 16;
+pub const MOST_BRANCH_RECORDS: usize = 1_024;
+pub const MOST_NODES: usize = 4_096;
+pub const MOST_STEPS: usize = 10_000;
+pub const MOST_DEPTH: u32 = 12;
+/// A variable's range lies within this and its negative.
+pub const BOUND: i16 = 30_000;
+/// A number's range lies within this and its negative.
+pub const NUMBER_BOUND: i64 = 1_000_000;
+pub const LAST_REFUSAL: u32 = 33;
+
+/// The lengths of the tables of contents: no folder is shorter.
+pub const MODEL_TABLE: usize = 8 * 5;
+pub const GRAPH_TABLE: usize = 8 * 2;
+
 fn put(bytes: &mut Vec<u8>, fields: impl IntoIterator<Item = u16>) {
     for field in fields {
         bytes.extend_from_slice(&field.to_le_bytes());

@@ -16,10 +16,8 @@ pub struct Large {
     pub branch: usize,
 }
 
-const COMMANDS: usize = 64;
-const BRANCHES: usize = 16;
-const NODES: usize = 4_096;
-const GRAPH_BYTES: usize = 1_048_576;
+/// The bytes of an edge of a command that has all the branches it may.
+pub const LONGEST_EDGE: usize = 2 + 2 * MOST_BRANCHES;
 
 /// For checks: 16 variables, 512 entries in 12 layers, each made of entries of the
 /// layers before it, 64 commands of 16 branches with deep guards and deep assigned
@@ -29,13 +27,13 @@ const GRAPH_BYTES: usize = 1_048_576;
 pub fn deep_check() -> Large {
     let mut random = Random::new(0x6465_6570);
     let groups = 12;
-    let mut variables = vec![[0, 1, 0]; 16];
+    let mut variables = vec![[0, 1, 0]; MOST_VARIABLES];
     variables[0] = [0, groups - 1, 0];
-    let mut b = Builder::new(65_535, variables);
+    let mut b = Builder::new(u16::MAX, variables);
     let put = |b: &mut Builder, record| b.put_anew(record).expect("room, depth and range are counted");
 
     let constants: Vec<u16> = (0..groups).map(|c| put(&mut b, [0, c as u16, 0, 0])).collect();
-    let leaves: Vec<u16> = (0..16).map(|v| put(&mut b, [1, v, 0, 0])).collect();
+    let leaves: Vec<u16> = (0..MOST_VARIABLES as u16).map(|v| put(&mut b, [1, v, 0, 0])).collect();
     let (zero, one) = (constants[0], constants[1]);
     let chosen: Vec<u16> = constants.iter().map(|&c| put(&mut b, [8, leaves[0], c, 0])).collect();
     let mut truths = vec![put(&mut b, [14, 0, 0, 0])];
@@ -43,7 +41,7 @@ pub fn deep_check() -> Large {
     let mut below = Vec::new();
     // Layers 2 to 11: comparisons and ifs (now and then a product) of the layer
     // before, the ifs reading its comparisons.
-    for _ in 2..=11 {
+    for _ in 2..MOST_DEPTH {
         let number = |k: usize| numbers[k % numbers.len()];
         let truth = |k: usize| truths[k % truths.len()];
         let shift = 1 + random.below(7);
@@ -59,22 +57,23 @@ pub fn deep_check() -> Large {
     }
     // Truths that always hold, guards that hold where variable 0 says so, a target
     // that never holds; entries that are always 0.
-    let held: Vec<u16> = (0..COMMANDS).map(|k| put(&mut b, [10, below[k % below.len()], one, 0])).collect();
+    let held: Vec<u16> =
+        (0..MOST_COMMANDS).map(|k| put(&mut b, [10, below[k % below.len()], one, 0])).collect();
     let guards: Vec<u16> =
-        (0..COMMANDS).map(|k| put(&mut b, [12, chosen[k % chosen.len()], held[k], 0])).collect();
+        (0..MOST_COMMANDS).map(|k| put(&mut b, [12, chosen[k % chosen.len()], held[k], 0])).collect();
     b.model.target = put(&mut b, [11, held[0], 0, 0]);
     let number = |k: usize| numbers[k % numbers.len()];
     let truth = |k: usize| truths[k % truths.len()];
     let zeros: Vec<u16> = (0..10).map(|k| put(&mut b, [5, number(k), zero, 0])).collect();
     let bits: Vec<u16> = (0..20).map(|k| put(&mut b, [7, truth(k), number(k), number(k + 5)])).collect();
     let mut groups_next = Vec::new();
-    while b.model.entries.len() < 512 {
+    while b.model.entries.len() < MOST_ENTRIES {
         let k = groups_next.len();
         let (a, c) = (random.pick(&constants), random.pick(&constants));
         groups_next.push(put(&mut b, [7, truth(k), a, c]));
     }
     for guard in guards {
-        let branches = weights(&mut random, 65_535, BRANCHES).into_iter().map(|weight| {
+        let branches = weights(&mut random, u16::MAX, MOST_BRANCHES).into_iter().map(|weight| {
             let mut branch = vec![weight, random.pick(&groups_next)];
             branch.extend((1..6).map(|_| random.pick(&bits)));
             branch.extend(&zeros);
@@ -88,7 +87,7 @@ pub fn deep_check() -> Large {
     // All states of the first six variables, then more nodes for some of them.
     let mut states: Vec<Vec<i16>> = Vec::new();
     for number in 0..32 * groups {
-        let mut state = vec![0; 16];
+        let mut state = vec![0; MOST_VARIABLES];
         state[0] = number / 32;
         for (v, value) in state.iter_mut().enumerate().take(6).skip(1) {
             *value = number >> (v - 1) & 1;
@@ -96,14 +95,14 @@ pub fn deep_check() -> Large {
         states.push(state);
     }
     let edges_of = |state: &[i16]| if state[0] < 4 { 6 } else { 5 };
-    let mut room = GRAPH_BYTES - 16 - NODES * (12 + 4 * 16);
+    let mut room = GRAPH_BYTES - GRAPH_TABLE - MOST_NODES * (12 + 4 * MOST_VARIABLES);
     let mut of_node: Vec<usize> = (0..states.len()).collect();
-    room -= of_node.iter().map(|&s| 34 * edges_of(&states[s])).sum::<usize>();
-    while of_node.len() < NODES {
-        let spare = room - 34 * 5 * (NODES - of_node.len());
-        let many = spare >= 34;
+    room -= of_node.iter().map(|&s| LONGEST_EDGE * edges_of(&states[s])).sum::<usize>();
+    while of_node.len() < MOST_NODES {
+        let spare = room - LONGEST_EDGE * 5 * (MOST_NODES - of_node.len());
+        let many = spare >= LONGEST_EDGE;
         let state = if many { random.below(4 * 32) } else { random.below(8 * 32) + 4 * 32 };
-        room -= 34 * edges_of(&states[state]);
+        room -= LONGEST_EDGE * edges_of(&states[state]);
         of_node.push(state);
     }
     let mut nodes_of = vec![Vec::new(); states.len()];
@@ -135,7 +134,7 @@ pub fn deep_check() -> Large {
         graph: graph.bytes(),
         state: model.initial(),
         command: 0,
-        branch: BRANCHES - 1,
+        branch: MOST_BRANCHES - 1,
     }
 }
 
@@ -144,7 +143,7 @@ pub fn deep_check() -> Large {
 pub fn figures(changing: bool) -> Large {
     let mut random = Random::new(0x6669_6775 + u64::from(changing));
     let (groups, each, target) = (9u16, 7, 9u16);
-    let mut b = Builder::new(65_535, vec![[0, 9, 0]]);
+    let mut b = Builder::new(u16::MAX, vec![[0, 9, 0]]);
     let put = |b: &mut Builder, record| b.put(record).expect("few and flat");
     let constants: Vec<u16> = (0..=9).map(|c| put(&mut b, [0, c, 0, 0])).collect();
     let variable = put(&mut b, [1, 0, 0, 0]);
@@ -152,7 +151,7 @@ pub fn figures(changing: bool) -> Large {
     b.model.target = at[usize::from(target)];
     for group in 0..groups {
         for k in 0..each {
-            let mut weights = weights(&mut random, 65_534, BRANCHES - 1);
+            let mut weights = weights(&mut random, u16::MAX - 1, MOST_BRANCHES - 1);
             weights.insert(0, 1);
             let branches = weights.into_iter().enumerate().map(|(branch, weight)| {
                 let next = if changing {
@@ -172,7 +171,7 @@ pub fn figures(changing: bool) -> Large {
         }
     }
     let model = b.model;
-    let group_of: Vec<u16> = (0..NODES as u16)
+    let group_of: Vec<u16> = (0..MOST_NODES as u16)
         .map(|place| match place {
             0..=9 => place,
             _ => random.below(usize::from(groups)) as u16,

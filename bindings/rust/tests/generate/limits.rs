@@ -112,7 +112,8 @@ fn wide(constant: i16) -> ModelData {
     model
 }
 
-/// A graph of exactly 1,048,576 bytes: 4,096 nodes, 60 edges each but for one.
+/// A graph of exactly as many bytes as it may have: 4,096 nodes, 60 edges each but for
+/// one.
 fn fullest() -> (ModelData, GraphData) {
     let mut model = plain(1, 5, 60, 1);
     model.entries[3] = [1, 0, 0, 0];
@@ -123,11 +124,12 @@ fn fullest() -> (ModelData, GraphData) {
     for branch in &mut model.branches {
         branch[1] = 3;
     }
-    let nodes = (0..4_096u16).map(|place| {
-        let last = place == 4_095;
+    let others = MOST_NODES as u16 - 1;
+    let nodes = (0..=others).map(|place| {
+        let last = place == others;
         let mut node = NodeData::new(EXPANDED, CERTAIN, 1, &[i16::from(last)]);
         for command in 0..if last { 56 } else { 60 } {
-            node.push_edge(command, vec![if last { place } else { (place * 7 + command) % 4_095 }]);
+            node.push_edge(command, vec![if last { place } else { (place * 7 + command) % others }]);
         }
         node
     });
@@ -148,15 +150,15 @@ pub fn limits() -> Vec<Limit> {
     for (name, length, number) in [
         ("model of no bytes", 0, 1),
         ("model of one byte", 1, 1),
-        ("model of 39 bytes", 39, 1),
-        ("model of 40 bytes", 40, 2),
+        ("model of 39 bytes", MODEL_TABLE - 1, 1),
+        ("model of 40 bytes", MODEL_TABLE, 2),
     ] {
         limits.push(whole(name, vec![0; length], graph.bytes(), model_refused(number, 0)));
     }
-    let largest = plain(16, 512, 64, 16);
+    let largest = plain(MOST_VARIABLES, MOST_ENTRIES, MOST_COMMANDS, MOST_BRANCHES);
     limits.push(of_model("the largest model", &largest, ACCEPTED));
     for (name, length, number, place) in
-        [("model of 40,000 bytes", 40_000, 2, 4), ("model of 40,001 bytes", 40_001, 1, 0)]
+        [("model of 40,000 bytes", MODEL_BYTES, 2, 4), ("model of 40,001 bytes", MODEL_BYTES + 1, 1, 0)]
     {
         let mut bytes = largest.bytes();
         bytes.resize(length, 0);
@@ -165,8 +167,8 @@ pub fn limits() -> Vec<Limit> {
     for (name, length, number) in [
         ("graph of no bytes", 0, 12),
         ("graph of one byte", 1, 12),
-        ("graph of 15 bytes", 15, 12),
-        ("graph of 16 bytes", 16, 13),
+        ("graph of 15 bytes", GRAPH_TABLE - 1, 12),
+        ("graph of 16 bytes", GRAPH_TABLE, 13),
     ] {
         limits.push(whole(name, model.bytes(), vec![0; length], graph_refused(number, 0)));
     }
@@ -177,38 +179,40 @@ pub fn limits() -> Vec<Limit> {
     limits.push(over);
 
     // Counts.
-    limits.push(of_model("16 variables", &plain(16, 3, 1, 1), ACCEPTED));
-    limits.push(of_model("17 variables", &plain(17, 3, 1, 1), model_refused(3, 1)));
+    limits.push(of_model("16 variables", &plain(MOST_VARIABLES, 3, 1, 1), ACCEPTED));
+    limits.push(of_model("17 variables", &plain(MOST_VARIABLES + 1, 3, 1, 1), model_refused(3, 1)));
     limits.push(of_model("no variable", &plain(0, 3, 1, 1), model_refused(3, 1)));
-    limits.push(of_model("512 entries", &plain(1, 512, 1, 1), ACCEPTED));
-    limits.push(of_model("513 entries", &plain(1, 513, 1, 1), model_refused(3, 2)));
-    limits.push(of_model("64 commands", &plain(1, 3, 64, 1), ACCEPTED));
-    limits.push(of_model("65 commands", &plain(1, 3, 65, 1), model_refused(3, 3)));
-    limits.push(of_model("1,024 branch records", &plain(1, 3, 64, 16), ACCEPTED));
-    let mut model_over = plain(1, 3, 64, 16);
+    limits.push(of_model("512 entries", &plain(1, MOST_ENTRIES, 1, 1), ACCEPTED));
+    limits.push(of_model("513 entries", &plain(1, MOST_ENTRIES + 1, 1, 1), model_refused(3, 2)));
+    limits.push(of_model("64 commands", &plain(1, 3, MOST_COMMANDS, 1), ACCEPTED));
+    limits.push(of_model("65 commands", &plain(1, 3, MOST_COMMANDS + 1, 1), model_refused(3, 3)));
+    let mut model_over = plain(1, 3, MOST_COMMANDS, MOST_BRANCHES);
+    limits.push(of_model("1,024 branch records", &model_over, ACCEPTED));
     model_over.branches.push(vec![1, 0]);
     limits.push(of_model("1,025 branch records", &model_over, model_refused(3, 4)));
-    limits.push(of_model("16 branches", &plain(1, 3, 2, 16), ACCEPTED));
-    limits.push(of_model("17 branches", &plain(1, 3, 2, 17), model_refused(8, 0)));
+    limits.push(of_model("16 branches", &plain(1, 3, 2, MOST_BRANCHES), ACCEPTED));
+    limits.push(of_model("17 branches", &plain(1, 3, 2, MOST_BRANCHES + 1), model_refused(8, 0)));
     let mut unbranched = plain(1, 3, 2, 1);
     unbranched.commands[1][1] = 0;
     limits.push(of_model("no branch", &unbranched, model_refused(8, 1)));
     let small = plain(1, 3, 1, 1);
-    limits.push(of_graph("4,096 nodes", &small, &plain_graph(&small, 4_096), ACCEPTED));
-    limits.push(of_graph("4,097 nodes", &small, &plain_graph(&small, 4_097), graph_refused(14, 0)));
+    limits.push(of_graph("4,096 nodes", &small, &plain_graph(&small, MOST_NODES), ACCEPTED));
+    let over = plain_graph(&small, MOST_NODES + 1);
+    limits.push(of_graph("4,097 nodes", &small, &over, graph_refused(14, 0)));
     let none = GraphData { nodes: Vec::new() };
     limits.push(of_graph("no node", &small, &none, graph_refused(14, 0)));
 
     // Depths, ranges, bounds, totals.
-    limits.push(of_model("depth 12", &chain(12), ACCEPTED));
-    limits.push(of_model("depth 13", &chain(13), model_refused(5, 14)));
+    let deepest = MOST_DEPTH as usize;
+    limits.push(of_model("depth 12", &chain(deepest), ACCEPTED));
+    limits.push(of_model("depth 13", &chain(deepest + 1), model_refused(5, 14)));
     limits.push(of_model("range of 1,000,000", &wide(0), ACCEPTED));
     limits.push(of_model("range of 1,000,001", &wide(1), model_refused(6, 9)));
     limits.push(of_model("range of −1,000,001", &wide(-1), model_refused(6, 9)));
     for (name, bounds, answers) in [
-        ("bounds of 30,000", [-30_000, 30_000, 0], ACCEPTED),
-        ("high of 30,001", [-30_000, 30_001, 0], model_refused(4, 0)),
-        ("low of −30,001", [-30_001, 30_000, 0], model_refused(4, 0)),
+        ("bounds of 30,000", [-BOUND, BOUND, 0], ACCEPTED),
+        ("high of 30,001", [-BOUND, BOUND + 1, 0], model_refused(4, 0)),
+        ("low of −30,001", [-BOUND - 1, BOUND, 0], model_refused(4, 0)),
         ("bounds crossed", [1, 0, 0], model_refused(4, 0)),
         ("initial over", [-1, 1, 2], model_refused(4, 0)),
         ("initial under", [-1, 1, -2], model_refused(4, 0)),
@@ -219,7 +223,7 @@ pub fn limits() -> Vec<Limit> {
     }
     for (name, total, answers) in [
         ("D of 0", 0, model_refused(7, 0)),
-        ("D of 65,535", 65_535, ACCEPTED),
+        ("D of 65,535", u16::MAX, ACCEPTED),
         ("D of 2", 2, model_refused(11, 0)),
     ] {
         let mut model = plain(1, 3, 1, 1);
@@ -240,18 +244,18 @@ pub fn limits() -> Vec<Limit> {
     limits.push(node("bit past the variables", |node| node.tracked = 2, graph_refused(15, 1)));
     limits.push(node("last bit", |node| node.tracked = 0x8000, graph_refused(15, 1)));
     limits.push(node("cover past the nodes", |node| node.cover = 2, graph_refused(22, 1)));
-    limits.push(node("cover of 65,535", |node| node.cover = 65_535, graph_refused(22, 1)));
+    limits.push(node("cover of 65,535", |node| node.cover = u16::MAX, graph_refused(22, 1)));
     let mut short = plain_graph(&small, 2);
-    short.nodes[0].edge_count = 65_535;
+    short.nodes[0].edge_count = u16::MAX;
     limits.push(of_graph("65,535 edges", &small, &short, graph_refused(16, 0)));
 
     // Figures.
     for (name, h, rows, answers) in [
         ("h of 0", 0, [6, 6], ACCEPTED),
         ("h of 1", 1, [6, 6], ACCEPTED),
-        ("h of 10,000", 10_000, [7, 8], ACCEPTED),
-        ("h of 9,999", 9_999, [8, 7], ACCEPTED),
-        ("h of 10,001", 10_001, [6, 6], figure_refused(27, 0)),
+        ("h of 10,000", MOST_STEPS, [7, 8], ACCEPTED),
+        ("h of 9,999", MOST_STEPS - 1, [8, 7], ACCEPTED),
+        ("h of 10,001", MOST_STEPS + 1, [6, 6], figure_refused(27, 0)),
         ("h as large as it goes", usize::MAX, [0, 0], figure_refused(27, 0)),
         ("first row short by one", 3, [5, 6], figure_refused(28, 0)),
         ("second row short by one", 3, [6, 5], figure_refused(28, 1)),
@@ -267,7 +271,7 @@ pub fn limits() -> Vec<Limit> {
     let mut waiting = graph.clone();
     waiting.nodes[5].kind = WAITING;
     let mut limit = whole("waiting, h and rows", model.bytes(), waiting.bytes(), figure_refused(26, 5));
-    limit.input.h = 10_001;
+    limit.input.h = MOST_STEPS + 1;
     limit.input.rows = [0, 0];
     limits.push(limit);
 

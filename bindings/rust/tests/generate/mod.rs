@@ -182,7 +182,7 @@ impl Pair {
             model: self.model.bytes(),
             graph: self.graph.bytes(),
             h: match random.below(80) {
-                0 => 10_000,
+                0 => MOST_STEPS,
                 1 => random.below(2_000),
                 2..=19 => random.below(100),
                 _ => random.below(8),
@@ -206,7 +206,7 @@ pub fn input(seed: u64) -> Input {
         7..=9 => mutate::near_model(random),
         10..=12 => mutate::near_graph(random),
         13..=16 => {
-            let number = 1 + random.below(33) as u32;
+            let number = 1 + random.below(LAST_REFUSAL as usize) as u32;
             mutate::aimed(random, number)
         }
         17..=18 => mutate::damaged(random),

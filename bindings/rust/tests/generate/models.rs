@@ -1,11 +1,10 @@
 //! Random models that keep every rule.
 
-use super::data::ModelData;
+use super::data::*;
 use super::random::Random;
 
-const DEPTH: u32 = 12;
-const ENTRIES: usize = 512;
-const NUMBERS: i64 = 1_000_000;
+/// The width of the widest range of a variable.
+const WIDEST: i64 = 2 * BOUND as i64;
 
 /// Low and high.
 type Span = (i64, i64);
@@ -70,8 +69,8 @@ impl Builder {
             7 => span(b).zip(span(c)).map(|(x, y)| (x.0.min(y.0), x.1.max(y.1))),
             _ => None,
         };
-        let narrow = found.is_none_or(|(low, high)| -NUMBERS <= low && high <= NUMBERS);
-        if depth > DEPTH || !narrow || self.model.entries.len() == ENTRIES {
+        let narrow = found.is_none_or(|(low, high)| -NUMBER_BOUND <= low && high <= NUMBER_BOUND);
+        if depth > MOST_DEPTH || !narrow || self.model.entries.len() == MOST_ENTRIES {
             return None;
         }
         self.model.entries.push(record);
@@ -144,11 +143,11 @@ impl Shape {
         let many = random.once_in(20);
         let wide = random.once_in(10);
         Shape {
-            variables: 1 + if random.once_in(2) { random.below(4) } else { random.below(16) },
-            width: random.pick(&[1, 1, 2, 3, 3, 4, 10, 1_000, 60_000]),
-            commands: 1 + random.below(if many { 64 } else { 5 }),
-            branches: 1 + random.below(if wide { 16 } else { 3 }),
-            total: random.pick(&[1, 2, 3, 7, 10, 10, 100, 1_000, 40_000, 65_535]),
+            variables: 1 + if random.once_in(2) { random.below(4) } else { random.below(MOST_VARIABLES) },
+            width: random.pick(&[1, 1, 2, 3, 3, 4, 10, 1_000, WIDEST]),
+            commands: 1 + random.below(if many { MOST_COMMANDS } else { 5 }),
+            branches: 1 + random.below(if wide { MOST_BRANCHES } else { 3 }),
+            total: random.pick(&[1, 2, 3, 7, 10, 10, 100, 1_000, 40_000, u16::MAX]),
             depth: 1 + random.below(6) as u32,
             tower: random.once_in(6),
         }
@@ -185,7 +184,7 @@ pub fn model(random: &mut Random, shape: &Shape) -> ModelData {
             }
             branches.push(branch);
         }
-        if builder.model.branches.len() + branches.len() > 1_024 {
+        if builder.model.branches.len() + branches.len() > MOST_BRANCH_RECORDS {
             break;
         }
         builder.command(guard, branches);
@@ -222,14 +221,15 @@ fn target(builder: &mut Builder, random: &mut Random, depth: u32) -> u16 {
 
 fn variable(random: &mut Random, width: i64) -> [i16; 3] {
     let width = if random.once_in(3) { width } else { random.between(0, width) };
-    let low = if width >= 60_000 {
-        -30_000
+    let bound = i64::from(BOUND);
+    let low = if width >= WIDEST {
+        -bound
     } else if random.once_in(3) {
-        random.between(-3, 3).clamp(-30_000, 30_000 - width)
+        random.between(-3, 3).clamp(-bound, bound - width)
     } else if random.once_in(6) {
-        random.between(-30_000, 30_000 - width)
+        random.between(-bound, bound - width)
     } else {
-        0.min(30_000 - width)
+        0.min(bound - width)
     };
     let high = low + width;
     let initial = if random.once_in(2) { low } else { random.between(low, high) };
@@ -284,7 +284,7 @@ fn existing(builder: &Builder, random: &mut Random, number: bool, depth: u32) ->
 
 fn number(builder: &mut Builder, random: &mut Random, depth: u32) -> u16 {
     if random.once_in(4) {
-        if let Some(entry) = existing(builder, random, true, DEPTH - 2) {
+        if let Some(entry) = existing(builder, random, true, MOST_DEPTH - 2) {
             return entry;
         }
     }
@@ -301,7 +301,7 @@ fn number(builder: &mut Builder, random: &mut Random, depth: u32) -> u16 {
 
 fn truth(builder: &mut Builder, random: &mut Random, depth: u32) -> u16 {
     if random.once_in(6) {
-        if let Some(entry) = existing(builder, random, false, DEPTH) {
+        if let Some(entry) = existing(builder, random, false, MOST_DEPTH) {
             return entry;
         }
     }

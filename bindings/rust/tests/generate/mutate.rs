@@ -281,14 +281,20 @@ pub fn tiny(random: &mut Random) -> Input {
 
 /// Arguments of the calls that may be out of their limits.
 pub fn arguments(random: &mut Random, input: &mut Input) {
-    let number = 27 + random.below(8) as u32;
+    let number = random.between(27, VIEW.into()) as u32;
     break_arguments(random, input, number);
 }
 
-/// Breaks row 27 to 33, or for 34 asks the view for what is not there.
+/// Not a refusal: what stands for the view, which has none.
+const VIEW: u32 = LAST_REFUSAL + 1;
+
+/// How many values a field has.
+const FIELD_VALUES: usize = 1 << 16;
+
+/// Breaks row 27 to 33, or asks the view for what is not there.
 fn break_arguments(random: &mut Random, input: &mut Input, number: u32) {
     match number {
-        27 => input.h = random.pick(&[10_001, 10_002, 65_536, 1 << 32, usize::MAX]),
+        27 => input.h = random.pick(&[MOST_STEPS + 1, MOST_STEPS + 2, FIELD_VALUES, 1 << 32, usize::MAX]),
         28 => {
             let row = random.below(2);
             input.rows[row] = random.pick(&[0, input.rows[row].saturating_sub(4)]);
@@ -302,13 +308,21 @@ fn break_arguments(random: &mut Random, input: &mut Input, number: u32) {
             let v = random.below(input.state.len());
             tweak_signed(random, &mut input.state[v]);
         }
-        31 => input.command = random.pick(&[64, 65, 65_535, 65_536, 1 << 32, usize::MAX]),
+        31 => {
+            let over =
+                [MOST_COMMANDS, MOST_COMMANDS + 1, FIELD_VALUES - 1, FIELD_VALUES, 1 << 32, usize::MAX];
+            input.command = random.pick(&over);
+        }
         32 => input.command = random.below(4),
-        33 => input.branch = random.pick(&[16, 17, 65_535, 65_536, 1 << 32, usize::MAX]),
+        33 => {
+            let over =
+                [MOST_BRANCHES, MOST_BRANCHES + 1, FIELD_VALUES - 1, FIELD_VALUES, 1 << 32, usize::MAX];
+            input.branch = random.pick(&over);
+        }
         _ => match random.below(3) {
             0 => input.body = random.pick(&[5, 6, 1 << 32, usize::MAX]),
             1 => input.record += 1 + random.below(3),
-            _ => input.record = random.pick(&[1_024, 65_535, 1 << 32, usize::MAX]),
+            _ => input.record = random.pick(&[MOST_BRANCH_RECORDS, FIELD_VALUES - 1, 1 << 32, usize::MAX]),
         },
     }
 }
@@ -321,9 +335,9 @@ pub fn aimed(random: &mut Random, number: u32) -> Input {
         let broken = match number {
             1 | 12 => {
                 let (bytes, limits) = if number == 1 {
-                    (&mut input.model, (40, 40_000))
+                    (&mut input.model, (MODEL_TABLE, MODEL_BYTES))
                 } else {
-                    (&mut input.graph, (16, 1_048_576))
+                    (&mut input.graph, (GRAPH_TABLE, GRAPH_BYTES))
                 };
                 if random.once_in(if number == 1 { 2 } else { 200 }) {
                     bytes.resize(limits.1 + 1 + random.below(100), 0);
@@ -344,7 +358,7 @@ pub fn aimed(random: &mut Random, number: u32) -> Input {
                 let mut bodies = pair.model.bodies();
                 let body = random.below(5);
                 let size = [4, 6, 8, 4, 2 + 2 * pair.model.variables.len()][body];
-                let most = [1, 16, 512, 64, 1_024][body];
+                let most = [1, MOST_VARIABLES, MOST_ENTRIES, MOST_COMMANDS, MOST_BRANCH_RECORDS][body];
                 match random.below(4) {
                     0 => bodies[body].clear(),
                     1 => drop(bodies[body].pop()),
@@ -357,7 +371,7 @@ pub fn aimed(random: &mut Random, number: u32) -> Input {
             14 => {
                 let mut bodies = pair.graph.bodies();
                 match random.below(30) {
-                    0 => bodies[0].resize((12 + 4 * pair.model.variables.len()) * 4_097, 0),
+                    0 => bodies[0].resize((12 + 4 * pair.model.variables.len()) * (MOST_NODES + 1), 0),
                     1..=5 => bodies[0].clear(),
                     6..=17 => drop(bodies[0].pop()),
                     _ => bodies[0].push(0),
@@ -399,6 +413,9 @@ pub fn aimed(random: &mut Random, number: u32) -> Input {
     Pair::any(random).input(random, "aimed, and missed")
 }
 
+/// So many entries, each a part of the next, are one too deep.
+const TOO_DEEP: usize = MOST_DEPTH as usize + 1;
+
 /// Breaks row 4 to 11, if the model allows it.
 fn break_model(random: &mut Random, model: &mut ModelData, number: u32) -> bool {
     let entries = model.entries.len() as u16;
@@ -410,14 +427,15 @@ fn break_model(random: &mut Random, model: &mut ModelData, number: u32) -> bool 
     no_truth.extend([entries, entries + 1, 0xffff]);
     let mut no_number = truths.clone();
     no_number.extend([entries, entries + 1, 0xffff]);
+    let most_branches = MOST_BRANCHES as u16;
     match number {
         4 => {
             let variable = any_of(random, &mut model.variables);
             let [low, high, _] = *variable;
             *variable = match random.below(5) {
                 0 => [high + 1, low, low],
-                1 => [-30_001, high, high],
-                2 => [low, 30_001, low],
+                1 => [-BOUND - 1, high, high],
+                2 => [low, BOUND + 1, low],
                 3 => [low, high, low - 1],
                 _ => [low, high, high + 1],
             };
@@ -434,7 +452,9 @@ fn break_model(random: &mut Random, model: &mut ModelData, number: u32) -> bool 
             };
             match random.below(6) {
                 0 => record[0] = random.pick(&[15, 16, 255, 256, 0xffff]),
-                1 if record[0] == 1 => record[1] = random.pick(&[model.variables.len() as u16, 16, 0xffff]),
+                1 if record[0] == 1 => {
+                    record[1] = random.pick(&[model.variables.len() as u16, MOST_VARIABLES as u16, 0xffff])
+                }
                 2 if used > 0 && record[0] > 1 => {
                     record[1 + random.below(used)] = random.pick(&[entry, entry + 1, 0xffff])
                 }
@@ -449,9 +469,9 @@ fn break_model(random: &mut Random, model: &mut ModelData, number: u32) -> bool 
                     record[1 + field] = random.pick(&lower);
                 }
                 4 if used < 3 => record[1 + used + random.below(3 - used)] = 1 + random.below(3) as u16,
-                5 if model.entries.len() + 13 <= 512 && !numbers.is_empty() => {
+                5 if model.entries.len() + TOO_DEEP <= MOST_ENTRIES && !numbers.is_empty() => {
                     let mut last = random.pick(&numbers);
-                    for _ in 0..13 {
+                    for _ in 0..TOO_DEEP {
                         model.entries.push([5, last, last, 0]);
                         last = model.entries.len() as u16 - 1;
                     }
@@ -461,7 +481,7 @@ fn break_model(random: &mut Random, model: &mut ModelData, number: u32) -> bool 
             true
         }
         6 => {
-            if model.entries.len() + 4 > 512 {
+            if model.entries.len() + 4 > MOST_ENTRIES {
                 return false;
             }
             let constant = random.pick(&[1_001i16, -1_001, 30_000, -32_768]);
@@ -485,20 +505,21 @@ fn break_model(random: &mut Random, model: &mut ModelData, number: u32) -> bool 
             if random.once_in(2) {
                 command[0] = random.pick(&no_truth);
             } else {
-                command[1] = random.pick(&[0, 17, 18, 256, 0xffff]);
+                command[1] = random.pick(&[0, most_branches + 1, most_branches + 2, 256, 0xffff]);
             }
             true
         }
         9 => {
             if random.once_in(2) {
                 let command = any_of(random, &mut model.commands);
-                let one = if command[1] == 1 || command[1] < 16 && random.once_in(2) { 1 } else { 0xffff };
+                let more = command[1] == 1 || command[1] < most_branches && random.once_in(2);
+                let one = if more { 1 } else { 0xffff };
                 command[1] = command[1].wrapping_add(one);
             } else {
                 let again = model.branches[0].clone();
                 model.branches.push(again);
             }
-            model.branches.len() <= 1_024
+            model.branches.len() <= MOST_BRANCH_RECORDS
         }
         10 => {
             let v = random.below(model.variables.len());
@@ -510,7 +531,7 @@ fn break_model(random: &mut Random, model: &mut ModelData, number: u32) -> bool 
                     // One more than the range allows, at either end.
                     let [low, high, _] = model.variables[v];
                     let over = if random.once_in(2) { high + 1 } else { low - 1 };
-                    if model.entries.len() == 512 {
+                    if model.entries.len() == MOST_ENTRIES {
                         return false;
                     }
                     model.entries.push([0, over as u16, 0, 0]);
@@ -547,8 +568,8 @@ fn break_graph(random: &mut Random, pair: &mut Pair, number: u32) -> bool {
                 1 => node.value = random.pick(&[CERTAIN + 1, u32::MAX]),
                 2 if node.kind != COVERED => node.cover = 1 + random.below(count) as u16,
                 3 if node.kind != EXPANDED => node.edge_count = 1,
-                4 if variables < 16 => {
-                    node.tracked |= 1 << random.between(variables as i64, 15);
+                4 if variables < MOST_VARIABLES => {
+                    node.tracked |= 1 << random.between(variables as i64, MOST_VARIABLES as i64 - 1);
                 }
                 5 => {
                     let [low, high, _] = model.variables[v];
@@ -567,10 +588,10 @@ fn break_graph(random: &mut Random, pair: &mut Pair, number: u32) -> bool {
             match random.below(5) {
                 0 => {
                     any_of(random, &mut graph.nodes[place].edges).command =
-                        random.pick(&[model.commands.len() as u16, 64, 0xffff])
+                        random.pick(&[model.commands.len() as u16, MOST_COMMANDS as u16, 0xffff])
                 }
                 1 => {
-                    let none = random.pick(&[count as u16, 4_096, 0xffff]);
+                    let none = random.pick(&[count as u16, MOST_NODES as u16, 0xffff]);
                     let edge = any_of(random, &mut graph.nodes[place].edges);
                     *any_of(random, &mut edge.successors) = none;
                 }
@@ -683,7 +704,7 @@ fn break_graph(random: &mut Random, pair: &mut Pair, number: u32) -> bool {
             };
             let covered = choose(graph, random, &|node| node.kind == COVERED).unwrap_or(place);
             graph.nodes[place].cover =
-                random.pick(&[count as u16, 4_096, 0xffff, place as u16, covered as u16]);
+                random.pick(&[count as u16, MOST_NODES as u16, 0xffff, place as u16, covered as u16]);
             true
         }
         23 => {
