@@ -79,11 +79,26 @@ ends_otherwise() { # PROGRAM NAME
   says_nothing
 }
 
+# The plain calls' answers, for tests of other bindings: a JSON object per line.
+writes_answers() { # PROGRAM
+  ends 0 "$1" 50
+  [ "$(wc -l <"$out")" -eq 50 ] || fail "it should write 50 lines"
+  python3 -c 'import json, sys; [json.loads(line)["answers"] for line in sys.stdin]' <"$out" || fail "it should be JSON"
+  ends 0 "$1" --limits 0
+  grep -q '"seed":null,"name":"4,096 nodes"' "$out" || fail "inputs at the limits are missing"
+  ends 2 "$1" fifty
+  says "usage: answers"
+  loses_output "$1" answers 50
+  says_nothing
+}
+
 ends 0 rt staticlib laguipy_c
 ends 0 cargo test --release --offline --manifest-path bindings/rust/Cargo.toml
-ends 0 cargo build --release --offline --example check --manifest-path bindings/rust/Cargo.toml
-prints_expected bindings/rust/target/release/examples/check
-ends_otherwise bindings/rust/target/release/examples/check check
+ends 0 cargo build --release --offline --examples --manifest-path bindings/rust/Cargo.toml
+programs=bindings/rust/target/release/examples
+prints_expected "$programs/check"
+ends_otherwise "$programs/check" check
+writes_answers "$programs/answers"
 
 ends 0 cc -std=c99 -O2 -Wall -Wextra -Werror -Iinclude examples/embed/embed.c target/staticlib/liblaguipy_c.a \
   -o target/embed

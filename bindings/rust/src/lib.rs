@@ -55,7 +55,8 @@
 //! - `tests/against_reference.rs`: every call compared with the plain one;
 //! - `examples/check.rs`: prints the check program's report, without its limit of
 //!   65,536 bytes; `examples/bench.rs`: how long the calls and the plain ones take
-//!   on the largest inputs.
+//!   on the largest inputs; `examples/answers.rs`: inputs with the plain calls'
+//!   answers, for tests of bindings in other languages.
 
 /// The version of this crate, and of the library that comes with it.
 pub const VERSION: &str = env!("CARGO_PKG_VERSION");

@@ -1,0 +1,147 @@
+//! Generated inputs, with the answers of the plain calls of `tests/reference`, so
+//! that bindings in other languages can be tested against them. The checker itself
+//! is not called.
+//!
+//! ```text
+//! cargo run --release --offline --example answers -- [--limits] COUNT
+//! ```
+//!
+//! Writes the inputs of the seeds below COUNT, and with `--limits` those at the
+//! limits too, one JSON object per line. Numbers are whole, up to 2^64 − 1. The
+//! input:
+//!
+//! - `seed`, null for one at the limits; `name`: what sort of input it is;
+//! - `model`, `graph`: the folders, in lower-case hex;
+//! - for the figure, `h` and `rows`, the lengths of the two rows; `first_before` and
+//!   `second_before`, what these hold before the call;
+//! - for the step, `state`, `command`, `branch` and `result`, the length of the
+//!   result row; `result_before`, what this holds before the call;
+//! - for the view, `body` and `record`.
+//!
+//! And `answers`, an object for each call. All but the last have `number` and
+//! `place`, those of the refusal, both 0 for acceptance:
+//!
+//! - `model`: the model check;
+//! - `graph`: the graph check; if accepted with `values`, which are the root value
+//!   and the nodes waiting, expanded, covered, target;
+//! - `figure`: `second` says whether the figures stand in the second row, `nodes` how
+//!   many they are, false and 0 if refused; `first_row` and `second_row` are the rows
+//!   after the call;
+//! - `step`: `result` is the result row after the call;
+//! - `part`: the view, `start` and `length` of the record in the model folder.
+//!
+//! It exits with 2 for bad usage, 3 if its output cannot be written; a closed pipe
+//! ends it quietly, with 141.
+
+#[path = "../tests/generate/mod.rs"]
+mod generate;
+#[path = "../tests/reference/mod.rs"]
+mod reference;
+
+use generate::limits::limits;
+use generate::{result_before, row_before, Input};
+use laguipy::{Refusal, Summary};
+use reference::Part;
+use std::io::{self, BufWriter, ErrorKind, Write};
+use std::process::ExitCode;
+
+const USAGE: u8 = 2;
+const FAILED: u8 = 3;
+const PIPE_CLOSED: u8 = 141;
+
+fn hex(bytes: &[u8]) -> String {
+    let digit = |value: u8| char::from(b"0123456789abcdef"[usize::from(value)]);
+    bytes.iter().flat_map(|byte| [digit(byte >> 4), digit(byte & 15)]).collect()
+}
+
+/// Number and place, as two fields.
+fn outcome<T>(answer: &Result<T, Refusal>) -> String {
+    let Refusal { number, place } = answer.as_ref().err().copied().unwrap_or(Refusal { number: 0, place: 0 });
+    format!(r#""number":{number},"place":{place}"#)
+}
+
+// Lists of numbers are written with `{:?}`, which is how JSON has them.
+
+fn graph_answer(input: &Input) -> String {
+    let answer = reference::graph_check(&input.model, &input.graph);
+    let values = answer.map_or(String::new(), |Summary { root, waiting, expanded, covered, target }| {
+        format!(r#","values":[{root},{waiting},{expanded},{covered},{target}]"#)
+    });
+    format!("{{{}{values}}}", outcome(&answer))
+}
+
+fn figure_answer(input: &Input, [mut first, mut second]: [Vec<u32>; 2]) -> String {
+    let answer = reference::figure(&input.model, &input.graph, input.h, &mut first, &mut second);
+    let part = answer.unwrap_or(Part { second: false, nodes: 0 });
+    format!(
+        r#"{{{},"second":{},"nodes":{},"first_row":{first:?},"second_row":{second:?}}}"#,
+        outcome(&answer),
+        part.second,
+        part.nodes
+    )
+}
+
+fn step_answer(input: &Input, mut result: Vec<i16>) -> String {
+    let Input { model, state, command, branch, .. } = input;
+    let answer = reference::step(model, state, *command, *branch, &mut result);
+    format!(r#"{{{},"result":{result:?}}}"#, outcome(&answer))
+}
+
+fn part_answer(Input { model, body, record, .. }: &Input) -> String {
+    let part = reference::record_part(model, *body, *record);
+    let start = part.as_ptr() as usize - model.as_ptr() as usize;
+    format!(r#"{{"start":{start},"length":{}}}"#, part.len())
+}
+
+fn answers(input: &Input, rows: [Vec<u32>; 2], result: Vec<i16>) -> String {
+    format!(
+        r#"{{"model":{{{}}},"graph":{},"figure":{},"step":{},"part":{}}}"#,
+        outcome(&reference::model_check(&input.model)),
+        graph_answer(input),
+        figure_answer(input, rows),
+        step_answer(input, result),
+        part_answer(input)
+    )
+}
+
+/// An input with its answers. Names are plain text, which JSON quotes as Rust does.
+fn write_line(out: &mut impl Write, seed: Option<u64>, input: &Input) -> io::Result<()> {
+    let Input { name, model, graph, h, rows, state, command, branch, result, body, record } = input;
+    let seed = seed.map_or("null".to_owned(), |seed| seed.to_string());
+    let before = [row_before(rows[0], 1), row_before(rows[1], 2)];
+    let [first, second] = &before;
+    let row = result_before(*result);
+    write!(out, r#"{{"seed":{seed},"name":{name:?},"model":"{}","graph":"{}","#, hex(model), hex(graph))?;
+    write!(out, r#""h":{h},"rows":{rows:?},"first_before":{first:?},"second_before":{second:?},"#)?;
+    write!(out, r#""state":{state:?},"command":{command},"branch":{branch},"result":{result},"#)?;
+    write!(out, r#""result_before":{row:?},"body":{body},"record":{record},"#)?;
+    writeln!(out, r#""answers":{}}}"#, answers(input, before, row))
+}
+
+fn write_all(out: &mut impl Write, count: u64, with_limits: bool) -> io::Result<()> {
+    for seed in 0..count {
+        write_line(out, Some(seed), &generate::input(seed))?;
+    }
+    for limit in if with_limits { limits() } else { Vec::new() } {
+        write_line(out, None, &limit.input)?;
+    }
+    out.flush()
+}
+
+fn main() -> ExitCode {
+    let words: Vec<_> = std::env::args_os().skip(1).map(|word| word.to_string_lossy().into_owned()).collect();
+    let (flags, counts): (Vec<_>, Vec<_>) = words.iter().partition(|word| *word == "--limits");
+    let count = if let [count] = counts.as_slice() { count.parse().ok() } else { None };
+    let Some(count) = count else {
+        let _ = writeln!(io::stderr(), "usage: answers [--limits] COUNT");
+        return ExitCode::from(USAGE);
+    };
+    match write_all(&mut BufWriter::new(io::stdout().lock()), count, !flags.is_empty()) {
+        Ok(()) => ExitCode::SUCCESS,
+        Err(error) if error.kind() == ErrorKind::BrokenPipe => ExitCode::from(PIPE_CLOSED),
+        Err(error) => {
+            let _ = writeln!(io::stderr(), "answers: cannot write to standard output: {error}");
+            ExitCode::from(FAILED)
+        }
+    }
+}
