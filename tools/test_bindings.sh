@@ -1,6 +1,7 @@
 #!/usr/bin/env bash
 # The static library as its users link it: proves and builds it, runs the tests of the Rust binding against the plain
-# Rust calls, and compiles and runs the Rust and the C example. Quiet unless something fails.
+# Rust calls, packages the crate, and compiles and runs the Rust and the C examples; then tries the scripts that keep
+# the version and the crate's copies of an example. Quiet unless something fails.
 set -euo pipefail
 cd "$(dirname "$0")/.."
 
@@ -14,7 +15,7 @@ exec 3<>"$room/pipe"
 exec 4>"$room/pipe" 3<&-
 
 fail() { # WORDS
-  cat "$out" "$said" >&2
+  for file in "$out" "$said"; do tail -c 20000 "$file" >&2; done
   echo "failed: $*" >&2
   exit 1
 }
@@ -32,6 +33,7 @@ to_nobody() { env --default-signal=PIPE "$@" >&4; }
 # What the last command printed, all of it; and what it said on standard error, or that it said nothing.
 prints() { [ "$(cat "$out")" = "$1" ] || fail "this is not what it should print: $1"; }
 says() { grep -qF -- "$1" "$said" || fail "this is not among what it says: $1"; }
+says_not() { ! grep -qF -- "$1" "$said" || fail "this should not be among what it says: $1"; }
 says_nothing() { [ ! -s "$said" ] || fail "it should say nothing"; }
 
 # What a program prints for each example is its expected.txt.
@@ -92,8 +94,61 @@ writes_answers() { # PROGRAM
   says_nothing
 }
 
+# Cargo on a crate whose library is in this folder, apart from what is built otherwise.
+cargo_with() { # FOLDER CRATE COMMAND WORDS...
+  local folder=$1 crate=$2/Cargo.toml command=$3
+  shift 3
+  LAGUIPY_LIB_DIR=$folder cargo "$command" --offline --target-dir "$room/target" --manifest-path "$crate" "$@"
+}
+
+# Without the library the Rust crate says what to do.
+needs_library() {
+  mkdir "$room/empty"
+  ends 101 cargo_with "$room/empty" bindings/rust check
+  says "no liblaguipy_c.a or liblaguipy.a in $room/empty"
+  says "rt staticlib laguipy_c"
+  says "set LAGUIPY_LIB_DIR"
+  says_not panicked
+}
+
+# As it is packaged, and with the library as it is installed, the Rust crate has all that it needs.
+packages() {
+  local packaged
+  packaged=$room/target/package/laguipy-$(cat VERSION)
+  mkdir "$room/lib"
+  cp target/staticlib/liblaguipy_c.a "$room/lib/liblaguipy.a"
+  ends 0 cargo_with "$room/lib" bindings/rust package --allow-dirty
+  ends 0 cargo_with "$room/lib" "$packaged" test --doc
+  grep -q '^test result: ok. 1 passed' "$out" || fail "the example of the crate's docs should be tested"
+  ends 0 cargo_with "$room/lib" "$packaged" run --example check -- "$packaged"/examples/pedal/{model,graph}.fold
+  prints "$(cat examples/pedal/expected.txt)"
+}
+
+# In a copy of what they look at, the scripts name each file that is not as it should be.
+name_files() {
+  local copy=$room/copy file
+  mkdir -p "$copy/bindings/rust"
+  cp -R VERSION examples include tools "$copy"
+  cp -R bindings/rust/Cargo.toml bindings/rust/Cargo.lock bindings/rust/examples "$copy/bindings/rust"
+  echo 10.20.30 >"$copy/VERSION"
+  ends 1 "$copy/tools/version.sh" --check
+  for file in include/laguipy.h bindings/rust/Cargo.toml bindings/rust/Cargo.lock; do
+    says "$file says version $(cat VERSION), and VERSION says 10.20.30"
+  done
+  ends 0 "$copy/tools/version.sh"
+  ends 0 "$copy/tools/version.sh" --check
+  ends 2 "$copy/tools/version.sh" --chek
+
+  printf x >>"$copy/bindings/rust/examples/pedal/model.fold"
+  rm "$copy/bindings/rust/examples/pedal/graph.fold"
+  ends 1 "$copy/examples/make.sh" --check
+  prints "$(printf 'not up to date: bindings/rust/examples/pedal/%s.fold\n' model graph)"
+}
+
 ends 0 rt staticlib laguipy_c
 ends 0 cargo test --release --offline --manifest-path bindings/rust/Cargo.toml
+needs_library
+packages
 ends 0 cargo build --release --offline --examples --manifest-path bindings/rust/Cargo.toml
 programs=bindings/rust/target/release/examples
 prints_expected "$programs/check"
@@ -104,3 +159,5 @@ ends 0 cc -std=c99 -O2 -Wall -Wextra -Werror -Iinclude examples/embed/embed.c ta
   -o target/embed
 prints_expected target/embed
 ends_otherwise target/embed embed
+
+name_files
