@@ -163,7 +163,7 @@ class Independent(unittest.TestCase):
 
     def test_answers(self):
         count = 0
-        with open(os.environ["LAGUIPY_ANSWERS"], encoding="ascii") as file:
+        with open(os.environ["LAGUIPY_ANSWERS"], encoding="utf-8") as file:
             for line in file:
                 self.compare(json.loads(line))
                 count += 1
