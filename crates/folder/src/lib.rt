@@ -2,10 +2,18 @@
 ghost use mathlib.Core.Path.{_≡_};
 ghost use Prim.Native.Nat.{_+_, _*_, _<_, _≤_, _^_};
 ghost use lib.ListN.{getD, length};
-ghost use Rattle.folder.specs.Fields.{u16, u32, signed16};
+ghost use Rattle.folder.specs.Fields.{fieldLimit, field4Limit, u16, u32, signed16};
 ghost use Rattle.folder.specs.Contents.{startOf, lengthOf, dueStart, entryOk, body, countOf, field, field4};
 ghost use Rattle.folder.specs.Scan.{firstBad};
 ghost use Rattle.folder.specs.Table.{refused};
+
+// What a field of 2 bytes stays below.
+pub const FIELD_LIMIT: usize = 65536;
+
+// Two's complement: from half the limit on a field is negative, and the whole of it is taken away.
+const HALF_LIMIT: usize = FIELD_LIMIT / 2;
+
+const SIGNED_SPAN: i64 = FIELD_LIMIT as i64;
 
 // A refusal: its number in document 01's table, and the place that the table returns with it.
 pub struct Refusal {
@@ -32,7 +40,7 @@ pub fn byte_at(s: &[u8], k: usize) -> usize
 }
 
 fn pair(low: u8, high: u8) -> usize
-    ensures { λ r. ⌜ (r ≡ low + high * 256) × (r < 65536) ⌝ }
+    ensures { λ r. ⌜ (r ≡ low + high * 256) × (r < fieldLimit) ⌝ }
 {
     (low as usize) + (high as usize) * 256
 }
@@ -40,14 +48,14 @@ fn pair(low: u8, high: u8) -> usize
 // The 2-byte field at k, which the slice has whole: nothing is tested, for whoever reads many.
 pub fn u16_in(s: &[u8], k: usize) -> usize
     requires { ⌜ k + 1 < length (now s) ⌝ }
-    ensures { λ r. ⌜ (r ≡ u16 (now (s .entry)) k) × (r < 65536) ⌝ }
+    ensures { λ r. ⌜ (r ≡ u16 (now (s .entry)) k) × (r < fieldLimit) ⌝ }
 {
     pair(s[k], s[k + 1])
 }
 
 pub fn u16_at(s: &[u8], k: usize) -> usize
     requires { ⌜ k < 2 ^ 60 ⌝ }
-    ensures { λ r. ⌜ (r ≡ u16 (now (s .entry)) k) × (r < 65536) ⌝ }
+    ensures { λ r. ⌜ (r ≡ u16 (now (s .entry)) k) × (r < fieldLimit) ⌝ }
 {
     if k + 1 < s.len() {
         u16_in(s, k)
@@ -58,33 +66,33 @@ pub fn u16_at(s: &[u8], k: usize) -> usize
 
 pub fn u32_at(s: &[u8], k: usize) -> usize
     requires { ⌜ k < 2 ^ 59 ⌝ }
-    ensures { λ r. ⌜ (r ≡ u32 (now (s .entry)) k) × (r < 4294967296) ⌝ }
+    ensures { λ r. ⌜ (r ≡ u32 (now (s .entry)) k) × (r < field4Limit) ⌝ }
 {
-    u16_at(s, k) + u16_at(s, k + 2) * 65536
+    u16_at(s, k) + u16_at(s, k + 2) * FIELD_LIMIT
 }
 
 // The two's complement value of a 2-byte field.
 pub fn signed_of(u: usize) -> i64
-    requires { ⌜ u < 65536 ⌝ }
+    requires { ⌜ u < fieldLimit ⌝ }
     ensures { λ r. ⌜ r ≡ signed16 u ⌝ }
 {
-    if u < 32768 {
+    if u < HALF_LIMIT {
         u as i64
     } else {
-        (u as i64) - 65536
+        (u as i64) - SIGNED_SPAN
     }
 }
 
 pub fn start_of(s: &[u8], e: usize) -> usize
     requires { ⌜ e < 2 ^ 32 ⌝ }
-    ensures { λ r. ⌜ (r ≡ startOf (now (s .entry)) e) × (r < 4294967296) ⌝ }
+    ensures { λ r. ⌜ (r ≡ startOf (now (s .entry)) e) × (r < field4Limit) ⌝ }
 {
     u32_at(s, e * 8)
 }
 
 pub fn length_of(s: &[u8], e: usize) -> usize
     requires { ⌜ e < 2 ^ 32 ⌝ }
-    ensures { λ r. ⌜ (r ≡ lengthOf (now (s .entry)) e) × (r < 4294967296) ⌝ }
+    ensures { λ r. ⌜ (r ≡ lengthOf (now (s .entry)) e) × (r < field4Limit) ⌝ }
 {
     u32_at(s, e * 8 + 4)
 }
@@ -162,7 +170,7 @@ pub fn count_of(size: usize, b: &[u8]) -> usize
 
 // Where the 2-byte field f of record i starts.
 fn position(size: usize, i: usize, f: usize) -> usize
-    requires { ⌜ (size ≤ 65536) × (i ≤ 65536) × (f ≤ 65536) ⌝ }
+    requires { ⌜ (size ≤ fieldLimit) × (i ≤ fieldLimit) × (f ≤ fieldLimit) ⌝ }
     ensures { λ r. ⌜ (r ≡ size * i + 2 * f) × (r < 2 ^ 59) ⌝ }
 {
     size * i + 2 * f
@@ -170,8 +178,8 @@ fn position(size: usize, i: usize, f: usize) -> usize
 
 // The 2-byte field f of record i of a body of records of `size` bytes.
 pub fn field(size: usize, b: &[u8], i: usize, f: usize) -> usize
-    requires { ⌜ (size ≤ 65536) × (i ≤ 65536) × (f ≤ 65536) ⌝ }
-    ensures { λ r. ⌜ (r ≡ field size (now (b .entry)) i f) × (r < 65536) ⌝ }
+    requires { ⌜ (size ≤ fieldLimit) × (i ≤ fieldLimit) × (f ≤ fieldLimit) ⌝ }
+    ensures { λ r. ⌜ (r ≡ field size (now (b .entry)) i f) × (r < fieldLimit) ⌝ }
 {
     u16_at(b, position(size, i, f))
 }
@@ -179,21 +187,21 @@ pub fn field(size: usize, b: &[u8], i: usize, f: usize) -> usize
 // The same of a record that the body counts: nothing is tested.
 pub fn field_in(size: usize, b: &[u8], i: usize, f: usize) -> usize
     requires { ⌜ (i < countOf size (now b)) × (2 * f + 2 ≤ size) ⌝ }
-    ensures { λ r. ⌜ (r ≡ field size (now (b .entry)) i f) × (r < 65536) ⌝ }
+    ensures { λ r. ⌜ (r ≡ field size (now (b .entry)) i f) × (r < fieldLimit) ⌝ }
 {
     u16_in(b, size * i + 2 * f)
 }
 
 // The 4-byte field that starts where the 2-byte field f does.
 pub fn field4(size: usize, b: &[u8], i: usize, f: usize) -> usize
-    requires { ⌜ (size ≤ 65536) × (i ≤ 65536) × (f ≤ 65536) ⌝ }
-    ensures { λ r. ⌜ (r ≡ field4 size (now (b .entry)) i f) × (r < 4294967296) ⌝ }
+    requires { ⌜ (size ≤ fieldLimit) × (i ≤ fieldLimit) × (f ≤ fieldLimit) ⌝ }
+    ensures { λ r. ⌜ (r ≡ field4 size (now (b .entry)) i f) × (r < field4Limit) ⌝ }
 {
     u32_at(b, position(size, i, f))
 }
 
 pub fn signed_field(size: usize, b: &[u8], i: usize, f: usize) -> i64
-    requires { ⌜ (size ≤ 65536) × (i ≤ 65536) × (f ≤ 65536) ⌝ }
+    requires { ⌜ (size ≤ fieldLimit) × (i ≤ fieldLimit) × (f ≤ fieldLimit) ⌝ }
     ensures { λ r. ⌜ r ≡ signed16 (field size (now (b .entry)) i f) ⌝ }
 {
     signed_of(field(size, b, i, f))

@@ -7,20 +7,20 @@ use mir.Val.{SFits, toZ, ofZ}
 use mir.Facts.{toZ-ofZ, toZ-pos}
 use borrow.Author.Needs.{needs}
 use borrow.Author.Tests.{lt-ltb, le-ltb}
-use Rattle.folder.specs.Fields.{signed16}
+use Rattle.folder.specs.Fields.{fieldLimit, halfLimit, signed16}
 use Rattle.folder.proofs.signed_of.Statement.{statement}
 use Rattle.folder.proofs.signed_of.Tie as tie
 
-low : (u : ℕ) → u < 65536 → SFits w64 (pos u -ℤ pos 65536)
-low u h = simp (lt-ltb u 65536 h) (record { sfits = omega arith })
+low : (u : ℕ) → u < fieldLimit → SFits w64 (pos u -ℤ pos fieldLimit)
+low u h = simp (lt-ltb u fieldLimit h) (record { sfits = omega arith })
 
-is-low : (u : ℕ) → u < 32768 → toZ w64 u ≡ signed16 u
+is-low : (u : ℕ) → u < halfLimit → toZ w64 u ≡ signed16 u
 unfolding signed16
-is-low u h = simp (lt-ltb u 32768 h) (toZ-pos w64 (omega arith))
+is-low u h = simp (lt-ltb u halfLimit h) (toZ-pos w64 (omega arith))
 
-is-high : (u : ℕ) → 32768 ≤ u → u < 65536 → toZ w64 (ofZ w64 (toZ w64 u -ℤ pos 65536)) ≡ signed16 u
+is-high : (u : ℕ) → halfLimit ≤ u → u < fieldLimit → toZ w64 (ofZ w64 (toZ w64 u -ℤ pos fieldLimit)) ≡ signed16 u
 unfolding signed16
-is-high u l h = rw (toZ-pos w64 {n = u} (omega arith)) (toZ-ofZ (low u h) ∙ simp (le-ltb u 32768 l))
+is-high u l h = rw (toZ-pos w64 {n = u} (omega arith)) (toZ-ofZ (low u h) ∙ simp (le-ltb u halfLimit l))
 
 sub-result : tie.Need-sub-result
 sub-result c = let u = c .before .args .u in rw (toZ-pos w64 {n = u} (omega arith)) (low u (omega arith))
