@@ -14,6 +14,7 @@ use lib.Seq.{getD-set-same, getD-set-other}
 use Rattle.folder.specs.Scan.{firstBad}
 use Rattle.folder.proofs.Decides.{and-both}
 use Rattle.folder.proofs.ScanLaws.{Scanned, scan-start, scan-next, scan-found}
+use Rattle.expressions.specs.Limits.{mostExpressions}
 use Rattle.expressions.specs.Entries.{Entries, numberForm, truthForm}
 use Rattle.expressions.specs.Levels.{numberAt, truthAt}
 use Rattle.expressions.specs.Rules.{deepest, depth, depthOf, entryFits}
@@ -52,13 +53,13 @@ module _ (x : Entries) (variables i : ℕ) (right : (e : ℕ) → e < i → Entr
 -- The first i of n entries passed, and the row has their depths.
 pub record Filled (x : Entries) (variables n i : ℕ) (depths : List ℕ) : Type 0 where
   pub scanned : Scanned (entryFits x variables) n i
-  pub long : length depths ≡ 512
+  pub long : length depths ≡ mostExpressions
   pub known : (p : ℕ) → p < i → getD depths p 0 ≡ depthOf x p
 
-pub fill-start : (x : Entries) (variables n : ℕ) → Filled x variables n 0 (replicate 512 0)
+pub fill-start : (x : Entries) (variables n : ℕ) → Filled x variables n 0 (replicate mostExpressions 0)
 fill-start x variables n = record {
   scanned = scan-start (entryFits x variables) n;
-  long = length-replicate {A = ℕ} 512 0;
+  long = length-replicate {A = ℕ} mostExpressions 0;
   known = λ p l. absurd (not-suc-le-zero l);
 }
 
@@ -82,7 +83,7 @@ module _ {x : Entries} {variables n i : ℕ} {depths : List ℕ} (h : Filled x v
     depth-found =
         by ∙ depth-is x variables i right (λ p. getD depths p 0) (h .known) (form-decided x variables i .yes (sym form ∙ and-both f (leb d deepest) passed .0))
 
-    pub fill-next : n ≤ 512 → Filled x variables n (i + 1) (set depths i d)
+    pub fill-next : n ≤ mostExpressions → Filled x variables n (i + 1) (set depths i d)
     fill-next m = record {
       scanned = scan-next (h .scanned) l tested passed;
       long = length-set depths i d ∙ h .long;

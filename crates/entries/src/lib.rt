@@ -2,8 +2,10 @@
 ghost use mathlib.Core.Path.{_≡_};
 ghost use Prim.Native.Nat.{_<_, _≤_, max};
 ghost use lib.ListN.{getD};
+ghost use Rattle.folder.specs.Fields.{fieldLimit};
 ghost use Rattle.folder.specs.Scan.{firstBad};
 ghost use Rattle.folder.specs.Contents.{countOf};
+ghost use Rattle.expressions.specs.Limits.{mostExpressions};
 ghost use Rattle.expressions.specs.Entries.{entriesOf};
 ghost use Rattle.expressions.specs.Levels.{numberStep, truthStep};
 ghost use Rattle.expressions.specs.Rules.{depth, second-unused, third-unused, numberPart, truthPart, numberFits, truthFits, entryFits};
@@ -15,35 +17,35 @@ use expressions::NumberForm;
 use expressions::TruthForm;
 
 fn third_unused(x: &[u8], e: usize) -> bool
-    requires { ⌜ e ≤ 65536 ⌝ }
+    requires { ⌜ e ≤ fieldLimit ⌝ }
     ensures { λ r. ⌜ r ≡ third-unused (entriesOf (now (x .entry))) e ⌝ }
 {
     folder::field(8, x, e, 3) == 0
 }
 
 fn second_unused(x: &[u8], e: usize) -> bool
-    requires { ⌜ e ≤ 65536 ⌝ }
+    requires { ⌜ e ≤ fieldLimit ⌝ }
     ensures { λ r. ⌜ r ≡ second-unused (entriesOf (now (x .entry))) e ⌝ }
 {
     (folder::field(8, x, e, 2) == 0) & third_unused(x, e)
 }
 
 fn number_part(x: &[u8], e: usize, p: usize) -> bool
-    requires { ⌜ p < 65536 ⌝ }
+    requires { ⌜ p < fieldLimit ⌝ }
     ensures { λ r. ⌜ r ≡ numberPart (entriesOf (now (x .entry))) e p ⌝ }
 {
     (p < e) & expressions::is_number(x, p)
 }
 
 fn truth_part(x: &[u8], e: usize, p: usize) -> bool
-    requires { ⌜ p < 65536 ⌝ }
+    requires { ⌜ p < fieldLimit ⌝ }
     ensures { λ r. ⌜ r ≡ truthPart (entriesOf (now (x .entry))) e p ⌝ }
 {
     (p < e) & expressions::is_truth(x, p)
 }
 
 fn number_fits(x: &[u8], variables: usize, e: usize, f: NumberForm) -> bool
-    requires { ⌜ (e ≤ 65536) × SmallN f ⌝ }
+    requires { ⌜ (e ≤ fieldLimit) × SmallN f ⌝ }
     ensures { λ r. ⌜ r ≡ numberFits (entriesOf (now (x .entry))) variables e f ⌝ }
 {
     match f {
@@ -60,7 +62,7 @@ fn number_fits(x: &[u8], variables: usize, e: usize, f: NumberForm) -> bool
 }
 
 fn truth_fits(x: &[u8], variables: usize, e: usize, f: TruthForm) -> bool
-    requires { ⌜ (e ≤ 65536) × SmallT f ⌝ }
+    requires { ⌜ (e ≤ fieldLimit) × SmallT f ⌝ }
     ensures { λ r. ⌜ r ≡ truthFits (entriesOf (now (x .entry))) variables e f ⌝ }
 {
     match f {
@@ -78,7 +80,7 @@ fn truth_fits(x: &[u8], variables: usize, e: usize, f: TruthForm) -> bool
 
 // Entry e has one of the two forms, and its fields are right.
 fn form_fits(x: &[u8], variables: usize, e: usize) -> bool
-    requires { ⌜ e ≤ 65536 ⌝ }
+    requires { ⌜ e ≤ fieldLimit ⌝ }
     ensures { λ r. ⌜ r ≡ formFits (entriesOf (now (x .entry))) variables e ⌝ }
 {
     let f = expressions::number_form(x, e);
@@ -127,7 +129,7 @@ fn truth_depth(depths: &[u8], f: TruthForm) -> usize
 }
 
 fn depth_by(x: &[u8], depths: &[u8], e: usize) -> usize
-    requires { ⌜ e ≤ 65536 ⌝ }
+    requires { ⌜ e ≤ fieldLimit ⌝ }
     ensures { λ r. ⌜ r ≡ depthBy (entriesOf (now (x .entry))) (λ p. getD (now (depths .entry)) p 0) e ⌝ }
 {
     let f = expressions::number_form(x, e);
@@ -138,7 +140,7 @@ fn depth_by(x: &[u8], depths: &[u8], e: usize) -> usize
 // The lowest entry that breaks row 5, or how many there are. Depths are filled upward, each from its parts' depths: a
 // recursion over the parts would take twice as long for each entry that names the one below it twice.
 pub fn first_bad_entry(x: &[u8], variables: usize) -> usize
-    requires { ⌜ countOf 8 (now x) ≤ 512 ⌝ }
+    requires { ⌜ countOf 8 (now x) ≤ mostExpressions ⌝ }
     ensures { λ r. ⌜ r ≡ firstBad (entryFits (entriesOf (now (x .entry))) variables) (countOf 8 (now (x .entry))) ⌝ }
 {
     let n = folder::count_of(8, x);

@@ -6,6 +6,7 @@ use native.Mathlib.Nat.{not-suc-le-zero}
 use native.Mathlib.Omega.{arith}
 use lib.IntN.{ℤ}
 use lib.Signed.{mag}
+use Rattle.whole.specs.Limits.{farthest}
 use Rattle.expressions.specs.Entries.{Entries, numberForm}
 use Rattle.expressions.specs.Levels.{numberAt}
 use Rattle.expressions.specs.Reading.{arithN, chooseN, reading}
@@ -63,5 +64,5 @@ module _ (x : Entries) (low : Lower x) (bound : ℕ → Range) (look : ℕ → N
   unfolding rangeOf
   in-range-at n e = in-range-by n (suc e) e (omega arith)
 
-pub small : {r : Range} {z : ℤ} → In r z → Inside r limits → mag z ≤ 1000000
-small {z = z} h i = let l = in-inside h i in within 999999 z (to-⊑ (l .low)) (to-⊑ (l .high))
+pub small : {r : Range} {z : ℤ} → In r z → Inside r limits → mag z ≤ farthest
+small {z = z} h i = let l = in-inside h i in within _ z (to-⊑ (l .low)) (to-⊑ (l .high))

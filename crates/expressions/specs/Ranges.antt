@@ -4,8 +4,9 @@ use Prim.Native.Nat.{ℕ}
 use mathlib.Core.Bool.{Bool, _&&_}
 use mathlib.Core.List.{List}
 use lib.Dec.{ltb}
-use lib.IntN.{ℤ, pos, negsuc, _+ℤ_, _-ℤ_, _*ℤ_}
+use lib.IntN.{ℤ, pos, negℤ, _+ℤ_, _-ℤ_, _*ℤ_}
 use lib.Signed.{leZ}
+use Rattle.whole.specs.Limits.{farthest}
 use Rattle.expressions.specs.Entries.{Entries}
 use Rattle.expressions.specs.Levels.{Interpretation, number}
 use Rattle.folder.specs.Pick.{pick}
@@ -73,4 +74,4 @@ inside a b = leZ (b .low) (a .low) && leZ (a .high) (b .high)
 
 -- −1,000,000 to 1,000,000.
 abbrev pub limits : Range
-limits = span (negsuc 999999) (pos 1000000)
+limits = span (negℤ (pos farthest)) (pos farthest)

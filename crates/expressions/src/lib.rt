@@ -1,11 +1,14 @@
 // Expressions: what an entry is, and what can be said of it.
 ghost use mathlib.Core.Path.{_≡_};
 ghost use Prim.Native.Nat.{_<_, _≤_};
+ghost use Rattle.folder.specs.Fields.{fieldLimit};
 ghost use Rattle.expressions.specs.Entries.{entriesOf, numberFormOf, truthFormOf, numberForm, truthForm, isNumber, isTruth};
 ghost use Rattle.expressions.specs.Reading.{hasBit};
 ghost use Rattle.expressions.specs.Small.{SmallN, SmallT};
 
-// Document 01's limits: how many expressions a model has, how deep they are, and how far their ranges reach.
+// Document 01's limits: variables and expressions of a model, how deep these are, and how far their ranges reach.
+pub const MOST_VARIABLES: usize = 16;
+
 pub const MOST_EXPRESSIONS: usize = 512;
 
 pub const DEEPEST: usize = 12;
@@ -13,6 +16,9 @@ pub const DEEPEST: usize = 12;
 pub const LOWEST: i64 = -1000000;
 
 pub const HIGHEST: i64 = 1000000;
+
+// The tracked set that has every variable.
+pub const ALL_TRACKED: usize = (1 << MOST_VARIABLES) - 1;
 
 pub enum Arith {
     Add,
@@ -70,7 +76,7 @@ pub struct Range {
 
 // The forms of an entry, by its operation and fields.
 pub fn number_form_of(op: usize, a: usize, b: usize, c: usize) -> NumberForm
-    requires { ⌜ (a < 65536) × (b < 65536) × (c < 65536) ⌝ }
+    requires { ⌜ (a < fieldLimit) × (b < fieldLimit) × (c < fieldLimit) ⌝ }
     ensures { λ r. ⌜ (r ≡ numberFormOf op a b c) × SmallN r ⌝ }
 {
     match op {
@@ -87,7 +93,7 @@ pub fn number_form_of(op: usize, a: usize, b: usize, c: usize) -> NumberForm
 }
 
 pub fn truth_form_of(op: usize, a: usize, b: usize) -> TruthForm
-    requires { ⌜ (a < 65536) × (b < 65536) ⌝ }
+    requires { ⌜ (a < fieldLimit) × (b < fieldLimit) ⌝ }
     ensures { λ r. ⌜ (r ≡ truthFormOf op a b) × SmallT r ⌝ }
 {
     match op {
@@ -104,7 +110,7 @@ pub fn truth_form_of(op: usize, a: usize, b: usize) -> TruthForm
 
 // Entry e of an expression body, as a number and as a truth.
 pub fn number_form(x: &[u8], e: usize) -> NumberForm
-    requires { ⌜ e ≤ 65536 ⌝ }
+    requires { ⌜ e ≤ fieldLimit ⌝ }
     ensures { λ r. ⌜ (r ≡ numberForm (entriesOf (now (x .entry))) e) × SmallN r ⌝ }
 {
     if e < folder::count_of(8, x) {
@@ -120,7 +126,7 @@ pub fn number_form(x: &[u8], e: usize) -> NumberForm
 }
 
 pub fn truth_form(x: &[u8], e: usize) -> TruthForm
-    requires { ⌜ e ≤ 65536 ⌝ }
+    requires { ⌜ e ≤ fieldLimit ⌝ }
     ensures { λ r. ⌜ (r ≡ truthForm (entriesOf (now (x .entry))) e) × SmallT r ⌝ }
 {
     if e < folder::count_of(8, x) {
@@ -136,7 +142,7 @@ pub fn truth_form(x: &[u8], e: usize) -> TruthForm
 
 // Its sort.
 pub fn is_number(x: &[u8], e: usize) -> bool
-    requires { ⌜ e ≤ 65536 ⌝ }
+    requires { ⌜ e ≤ fieldLimit ⌝ }
     ensures { λ r. ⌜ r ≡ isNumber (entriesOf (now (x .entry))) e ⌝ }
 {
     if e < folder::count_of(8, x) {
@@ -147,7 +153,7 @@ pub fn is_number(x: &[u8], e: usize) -> bool
 }
 
 pub fn is_truth(x: &[u8], e: usize) -> bool
-    requires { ⌜ e ≤ 65536 ⌝ }
+    requires { ⌜ e ≤ fieldLimit ⌝ }
     ensures { λ r. ⌜ r ≡ isTruth (entriesOf (now (x .entry))) e ⌝ }
 {
     let op = folder::field(8, x, e, 0);

@@ -9,20 +9,21 @@ use lib.Signed.{mag}
 use mir.Syntax.{w64}
 use mir.Val.{SFits, toZ, ofZ}
 use Rattle.folder.proofs.Signed.{back, back-fits}
+use Rattle.whole.specs.Limits.{farthest}
 use Rattle.whole.proofs.Fits.{add-fits, sub-fits, mul-fits}
 
 pub called : (op : ℤ → ℤ → ℤ) {r a b : ℤ} → mag r < 2 ^ 63 → r ≡ op (toZ w64 (ofZ w64 a)) (toZ w64 (ofZ w64 b)) → SFits w64 a → SFits w64 b
     → toZ w64 (ofZ w64 r) ≡ op a b
 called op ok e h l = back ok ∙ e ∙ ap₂ op (back-fits h) (back-fits l)
 
-small-back : (z : ℤ) → mag z ≤ 1000000 → toZ w64 (ofZ w64 z) ≡ z
+small-back : (z : ℤ) → mag z ≤ farthest → toZ w64 (ofZ w64 z) ≡ z
 small-back z h = back (omega arith)
 
-pub add-near : (a b : ℤ) → mag a ≤ 1000000 → mag b ≤ 1000000 → SFits w64 (toZ w64 (ofZ w64 a) +ℤ toZ w64 (ofZ w64 b))
+pub add-near : (a b : ℤ) → mag a ≤ farthest → mag b ≤ farthest → SFits w64 (toZ w64 (ofZ w64 a) +ℤ toZ w64 (ofZ w64 b))
 add-near a b h l = rw (small-back a h, small-back b l) (add-fits a b h l)
 
-pub sub-near : (a b : ℤ) → mag a ≤ 1000000 → mag b ≤ 1000000 → SFits w64 (toZ w64 (ofZ w64 a) -ℤ toZ w64 (ofZ w64 b))
+pub sub-near : (a b : ℤ) → mag a ≤ farthest → mag b ≤ farthest → SFits w64 (toZ w64 (ofZ w64 a) -ℤ toZ w64 (ofZ w64 b))
 sub-near a b h l = rw (small-back a h, small-back b l) (sub-fits a b h l)
 
-pub mul-near : (a b : ℤ) → mag a ≤ 1000000 → mag b ≤ 1000000 → SFits w64 (toZ w64 (ofZ w64 a) *ℤ toZ w64 (ofZ w64 b))
+pub mul-near : (a b : ℤ) → mag a ≤ farthest → mag b ≤ farthest → SFits w64 (toZ w64 (ofZ w64 a) *ℤ toZ w64 (ofZ w64 b))
 mul-near a b h l = rw (small-back a h, small-back b l) (mul-fits a b h l)

@@ -7,6 +7,7 @@ use mathlib.Core.List.{List}
 use native.Mathlib.Omega.{arith}
 use lib.ListN.{length, set, length-set}
 use lib.IntN.{ℤ}
+use Rattle.folder.specs.Fields.{fieldLimit}
 use Rattle.folder.specs.Scan.{firstBad}
 use Rattle.folder.proofs.FillLaws.{fill-none, fill-more}
 use Rattle.folder.proofs.ScanLaws.{Scanned, scan-start, scan-next, scan-found}
@@ -36,7 +37,7 @@ fill-start x y lows highs n = record {
 
 module _ {x y : List ℕ} {lows₀ highs₀ : List ℤ} {n : ℕ} {lows highs : List ℤ} {e : ℕ} (filling : Filling x y lows₀ highs₀ n lows highs e) (l : e < n) where
   module _ (lows-fit : n ≤ length lows₀) (highs-fit : n ≤ length highs₀) where
-    pub fill-ranged : Based x y → n ≤ 65536 → Ranged x y lows highs e e
+    pub fill-ranged : Based x y → n ≤ fieldLimit → Ranged x y lows highs e e
     fill-ranged based small = record {
       based = based;
       rows = settled x y e lows highs lows₀ highs₀ (filling .lows-are) (filling .highs-are) (omega arith) (omega arith);

@@ -6,7 +6,9 @@ use mathlib.Core.List.{List, _++_}
 use lib.ListN.{length, getD, drop}
 use lib.IntN.{ℤ, pos}
 use lib.Signed.{mag, _≤ℤ_}
+use Rattle.folder.specs.Fields.{fieldLimit}
 use Rattle.folder.specs.Tab.{tab}
+use Rattle.whole.specs.Limits.{farthest}
 use Rattle.expressions.specs.Entries.{entriesOf}
 use Rattle.expressions.specs.Parts.{Lower}
 use Rattle.expressions.specs.Ranges.{span, boundIn, rangeOf, limits}
@@ -19,8 +21,8 @@ pub record Ordered (r : Range) : Type 0 where
 
 -- Both ends are small: what sums and products of ends ask.
 pub record Near (r : Range) : Type 0 where
-  pub low : mag (r .low) ≤ 1000000
-  pub high : mag (r .high) ≤ 1000000
+  pub low : mag (r .low) ≤ farthest
+  pub high : mag (r .high) ≤ farthest
 
 module _ (x y : List ℕ) where
   -- The range of entry e of the expression body x, over the variable body y.
@@ -50,4 +52,4 @@ module _ (x y : List ℕ) where
     pub based : Based
     pub rows : Settled lows highs settled
     pub inside : (i : ℕ) → i < e → Inside (rangeIn i) limits
-    pub small : e ≤ 65536
+    pub small : e ≤ fieldLimit

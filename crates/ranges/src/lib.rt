@@ -3,8 +3,10 @@ ghost use mathlib.Core.Path.{_≡_};
 ghost use Prim.Native.Nat.{_<_, _≤_};
 ghost use lib.ListN.{length, getD};
 ghost use lib.IntN.{pos};
+ghost use Rattle.folder.specs.Fields.{fieldLimit};
 ghost use Rattle.folder.specs.Contents.{countOf};
 ghost use Rattle.folder.specs.Scan.{firstBad};
+ghost use Rattle.expressions.specs.Limits.{mostExpressions};
 ghost use Rattle.expressions.specs.Entries.{entriesOf};
 ghost use Rattle.expressions.specs.Ranges.{span, least, greatest, product, arithR, hull, boundIn, rangeOf, inside, limits};
 ghost use Rattle.expressions.specs.Rules.{rangeFits};
@@ -17,7 +19,7 @@ use expressions::Range;
 
 // The range of variable v of a variable body; past the last, 0 to 0.
 pub fn bound_at(y: &[u8], v: usize) -> Range
-    requires { ⌜ v ≤ 65536 ⌝ }
+    requires { ⌜ v ≤ fieldLimit ⌝ }
     ensures { λ r. ⌜ r ≡ boundIn (now (y .entry)) v ⌝ }
 {
     if v < folder::count_of(6, y) {
@@ -154,8 +156,8 @@ pub fn range_of(x: &[u8], y: &[u8], lows: &[i64], highs: &[i64], settled: usize,
 // that each is worked out once.
 pub fn fill_ranges(x: &[u8], y: &[u8], lows: &mut [i64], highs: &mut [i64]) -> usize
     requires { ⌜ Based (now x) (now y) ⌝ }
-    requires { ⌜ countOf 8 (now x) ≤ 512 ⌝ }
-    requires { ⌜ (512 ≤ length (now lows)) × (512 ≤ length (now highs)) ⌝ }
+    requires { ⌜ countOf 8 (now x) ≤ mostExpressions ⌝ }
+    requires { ⌜ (mostExpressions ≤ length (now lows)) × (mostExpressions ≤ length (now highs)) ⌝ }
     ensures { λ r. ⌜ r ≡ firstBad (rangeFits (entriesOf (now (x .entry))) (boundIn (now (y .entry)))) (countOf 8 (now (x .entry))) ⌝ }
     ensures { λ r. ⌜ now (lows .exit) ≡ lowEnds (now (x .entry)) (now (y .entry)) r (now (lows .entry)) ⌝ }
     ensures { λ r. ⌜ now (highs .exit) ≡ highEnds (now (x .entry)) (now (y .entry)) r (now (highs .entry)) ⌝ }

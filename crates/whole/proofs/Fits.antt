@@ -1,4 +1,4 @@
--- Sums, differences and products of numbers within a million of 0 fit 64 bits.
+-- Sums, differences and products of numbers at most `farthest` from 0 fit 64 bits.
 -- Assumes nothing.
 use mathlib.Core.Bool.{Bool, true, false, cond}
 use Prim.Native.Nat.{ℕ, zero, suc, _+_, _-_, _*_, _≤_, zero-le}
@@ -9,6 +9,7 @@ use lib.IntN.{ℤ, pos, negsuc, negℤ, subℕ, _+ℤ_, _-ℤ_, _*ℤ_}
 use lib.Signed.{mag}
 use mir.Syntax.{w64}
 use mir.Val.{SFits}
+use Rattle.whole.specs.Limits.{farthest}
 
 mag-cond : (t : Bool) (m n k : ℕ) → m ≤ k → n ≤ k → mag (cond t (negsuc m) (pos n)) ≤ k
 mag-cond true m n k h l = h
@@ -38,11 +39,11 @@ mag-mul (pos a) (negsuc b) = le-trans (mag-neg-pos (a * suc b)) (mul-le-mul (le-
 mag-mul (negsuc a) (pos b) = le-trans (mag-neg-pos (suc a * b)) (mul-le-mul (le-refl (suc a)) (le-suc b))
 mag-mul (negsuc a) (negsuc b) = le-refl (suc a * suc b)
 
-pub add-fits : (a b : ℤ) → mag a ≤ 1000000 → mag b ≤ 1000000 → SFits w64 (a +ℤ b)
+pub add-fits : (a b : ℤ) → mag a ≤ farthest → mag b ≤ farthest → SFits w64 (a +ℤ b)
 add-fits a b h l = record { sfits = omega (arith, mag-add a b) }
 
-pub sub-fits : (a b : ℤ) → mag a ≤ 1000000 → mag b ≤ 1000000 → SFits w64 (a -ℤ b)
+pub sub-fits : (a b : ℤ) → mag a ≤ farthest → mag b ≤ farthest → SFits w64 (a -ℤ b)
 sub-fits a b h l = record { sfits = omega (arith, mag-add a (negℤ b), mag-negℤ b) }
 
-pub mul-fits : (a b : ℤ) → mag a ≤ 1000000 → mag b ≤ 1000000 → SFits w64 (a *ℤ b)
-mul-fits a b h l = record { sfits = lt-of-le-of-lt (le-trans (mag-mul a b) (mul-le-mul {n₂ = 1000001} {m₂ = 1000001} (omega arith) (omega arith))) (lit< tt) }
+pub mul-fits : (a b : ℤ) → mag a ≤ farthest → mag b ≤ farthest → SFits w64 (a *ℤ b)
+mul-fits a b h l = record { sfits = lt-of-le-of-lt (le-trans (mag-mul a b) (mul-le-mul {n₂ = suc farthest} {m₂ = suc farthest} (omega arith) (omega arith))) (lit< tt) }

@@ -1,0 +1,13 @@
+-- Document 01's limits that reading expressions stands on. (model/specs/Limits.antt has all of a model's.)
+-- Assumes nothing.
+use Prim.Native.Nat.{ℕ, _-_, _^_}
+
+abbrev pub mostVariables : ℕ
+mostVariables = 16
+
+abbrev pub mostExpressions : ℕ
+mostExpressions = 512
+
+-- The tracked set that has every variable.
+abbrev pub allTracked : ℕ
+allTracked = 2 ^ mostVariables - 1
