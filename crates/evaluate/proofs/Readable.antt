@@ -1,5 +1,5 @@
--- Expressions that rows 5 and 6 pass can be read in a label whose values lie in the ranges, by 12 levels; and in a state,
--- which is the label that tracks every variable.
+-- Expressions that rows 5 and 6 pass can be read in a label whose values lie in the ranges, by `deepest` levels; and
+-- in a state, which is the label that tracks every variable.
 -- Assumes nothing.
 use Prim.Native.Nat.{ℕ, _<_, _≤_}
 use mathlib.Core.Path.{_≡_, refl, sym, _∙_, subst}
@@ -13,22 +13,23 @@ use lib.IntN.{ℤ, pos}
 use Rattle.folder.specs.Pick.{pick}
 use Rattle.folder.specs.Scan.{firstBad}
 use Rattle.folder.proofs.Decides.{everywhere, passes}
+use Rattle.expressions.specs.Limits.{mostVariables, allTracked}
 use Rattle.expressions.specs.Entries.{Entries, numberForm, truthForm}
 use Rattle.expressions.specs.Levels.{numberAt, truthAt}
 use Rattle.expressions.specs.Meaning.{State, valueOf, numberIn, truthIn}
-use Rattle.expressions.specs.Reading.{knownTruth, hasBit, lookIn, reading, readNumber, readTruth}
+use Rattle.expressions.specs.Reading.{knownTruth, hasBit, lookIn, reading, readNumber, readTruth, isTrue}
 use Rattle.expressions.specs.Ranges.{span, rangeOf, limits}
 use Rattle.expressions.specs.Rules.{deepest, depthOf}
 use Rattle.expressions.specs.Right.{IsNumber, IsTruth, Inside}
 use Rattle.expressions.specs.Parts.{Lower}
 use Rattle.expressions.specs.declared.Number.{Number}
 use Rattle.expressions.specs.declared.Number.the-variants.{Known, Unknown as Open}
-use Rattle.expressions.specs.declared.Truth.the-variants.{True, False, Unknown}
+use Rattle.expressions.specs.declared.Truth.the-variants.{Unknown}
 use Rattle.expressions.specs.declared.Range.{Range}
 use Rattle.expressions.proofs.Interval.{In}
 use Rattle.expressions.proofs.Levels.{lower, truth-deep}
 use Rattle.expressions.proofs.Small.{InN, in-range-at, small}
-use Rattle.expressions.proofs.Sound.{Says, number-sound, truth-sound, known-is, true-is, false-is}
+use Rattle.expressions.proofs.Sound.{Says, number-sound, truth-sound, known-is, is-true}
 use Rattle.expressions.proofs.Whole.{whole-number, whole-truth}
 use Rattle.evaluate.specs.Bounded.{Bounded}
 use Rattle.evaluate.specs.Formed.{Formed, Values, Ready, Grounded}
@@ -86,12 +87,12 @@ module _ (x : Entries) (t : ℕ) (v : List ℤ) (ready : Ready x t v) where
   truth-enough e = let f = ready .formed in truth-deep (reading (lookIn t v)) x (parts-lower x _ _ f) deepest e (shallow x _ _ f e)
 
 -- ---- a state
-sixteen : (i : ℕ) → i < 16 → hasBit 65535 i ≡ true
+each-tracked : (i : ℕ) → i < mostVariables → hasBit allTracked i ≡ true
 unfolding firstBad hasBit
-sixteen = everywhere 16 (λ i l. passes (hasBit 65535 i)) .yes refl
+each-tracked = everywhere mostVariables (λ i l. passes (hasBit allTracked i)) .yes refl
 
 module _ (x : Entries) (s : State) (grounded : Grounded x s) where
-  pub ready : Ready x 65535 s
+  pub ready : Ready x allTracked s
   ready = record {
     variables = grounded .variables;
     bound = grounded .bound;
@@ -99,37 +100,35 @@ module _ (x : Entries) (s : State) (grounded : Grounded x s) where
     values = record { low = λ i h. grounded .low i; high = λ i h. grounded .high i };
   }
 
-  told : (i : ℕ) → i < grounded .variables → (z : ℤ) × (lookIn 65535 s i ≡ Known z)
+  told : (i : ℕ) → i < grounded .variables → (z : ℤ) × (lookIn allTracked s i ≡ Known z)
   unfolding lookIn
-  told i l = (valueOf s i, rw (sixteen i (omega (arith, grounded .few))))
+  told i l = (valueOf s i, rw (each-tracked i (omega (arith, grounded .few))))
 
-  says : (i : ℕ) → Says (lookIn 65535 s i) (valueOf s i)
+  says : (i : ℕ) → Says (lookIn allTracked s i) (valueOf s i)
   unfolding lookIn
-  says i = go (hasBit 65535 i)
+  says i = go (hasBit allTracked i)
     where
       go : (b : Bool) → Says (pick b (Known (valueOf s i)) Open) (valueOf s i)
       go true = Says.known
       go false = Says.open-number
 
   module _ (e : ℕ) where
-    pub number-known : (z : ℤ) → readNumber x (lookIn 65535 s) e ≡ Known z → z ≡ numberIn x s e
-    number-known z h = sym (known-is z (number-sound x (lookIn 65535 s) s says e) h)
+    pub number-known : (z : ℤ) → readNumber x (lookIn allTracked s) e ≡ Known z → z ≡ numberIn x s e
+    number-known z h = sym (known-is z (number-sound x (lookIn allTracked s) s says e) h)
 
-    pub number-open : IsNumber x e → readNumber x (lookIn 65535 s) e ≡ Open → ⊥
+    pub number-open : IsNumber x e → readNumber x (lookIn allTracked s) e ≡ Open → ⊥
     number-open n h =
-        let w = whole-number x (grounded .variables) (grounded .formed .right) (lookIn 65535 s) told e n in
+        let w = whole-number x (grounded .variables) (grounded .formed .right) (lookIn allTracked s) told e n in
         let k : _≡_ {A = ℕ} 0 1 = cc (w .1) in
         omega arith
 
-    pub truth-true : readTruth x (lookIn 65535 s) e ≡ True → true ≡ truthIn x s e
-    truth-true h = sym (true-is (truth-sound x (lookIn 65535 s) s says e) h)
-
-    pub truth-false : readTruth x (lookIn 65535 s) e ≡ False → false ≡ truthIn x s e
-    truth-false h = sym (false-is (truth-sound x (lookIn 65535 s) s says e) h)
-
-    pub truth-open : IsTruth x e → readTruth x (lookIn 65535 s) e ≡ Unknown → ⊥
-    truth-open n h = let w = whole-truth x (grounded .variables) (grounded .formed .right) (lookIn 65535 s) told e n in go (w .0) (sym h ∙ w .1)
+    truth-open : IsTruth x e → readTruth x (lookIn allTracked s) e ≡ Unknown → ⊥
+    truth-open n h = let w = whole-truth x (grounded .variables) (grounded .formed .right) (lookIn allTracked s) told e n in go (w .0) (sym h ∙ w .1)
       where
         go : (b : Bool) → Unknown ≡ knownTruth b → ⊥
         go true k = let j : _≡_ {A = ℕ} 0 1 = cc in omega arith
         go false k = let j : _≡_ {A = ℕ} 0 1 = cc in omega arith
+
+    -- No truth reads unknown in a state, so that one that does not read true is false.
+    pub truth-is : IsTruth x e → isTrue (readTruth x (lookIn allTracked s) e) ≡ truthIn x s e
+    truth-is n = is-true (truth-sound x (lookIn allTracked s) s says e) (truth-open n)

@@ -15,6 +15,7 @@ use Rattle.folder.specs.Tab.{fill}
 use Rattle.folder.proofs.Decides.{unless}
 use Rattle.whole.specs.Order.{eqZ}
 use Rattle.folder.proofs.FillLaws.{getD-filled}
+use Rattle.expressions.specs.Limits.{allTracked}
 use Rattle.expressions.specs.Entries.{Entries, numberForm, truthForm, isNumber}
 use Rattle.expressions.specs.Levels.{numberStep, truthStep, numberAt, truthAt}
 use Rattle.expressions.specs.Meaning.{State, numberIn}
@@ -115,13 +116,13 @@ module _ (x : Entries) (t : ℕ) (v : List ℤ) (ready : Ready x t v) (e : ℕ) 
     parts-small k p q l f m n = let h = rw (sym l ∙ f) at number-parts in (part-small p (h .0) m, part-small q (h .1) n)
 
 -- ---- a state
-module _ (x : Entries) (s : State) (grounded : Grounded x s) (known : List ℕ) (values : List ℤ) (settled : Settled x (lookIn 65535 s) (x .count) known values) where
-  number-is : (e : ℕ) → IsNumber x e → (b : Bool) → pick b (Known (getD values e (pos 0))) Open ≡ readNumber x (lookIn 65535 s) e → getD values e (pos 0) ≡ numberIn x s e
+module _ (x : Entries) (s : State) (grounded : Grounded x s) (known : List ℕ) (values : List ℤ) (settled : Settled x (lookIn allTracked s) (x .count) known values) where
+  number-is : (e : ℕ) → IsNumber x e → (b : Bool) → pick b (Known (getD values e (pos 0))) Open ≡ readNumber x (lookIn allTracked s) e → getD values e (pos 0) ≡ numberIn x s e
   number-is e i true h = number-known x s grounded e (getD values e (pos 0)) (sym h)
   number-is e i false h = absurd (number-open x s grounded e i (sym h))
 
   -- Rows that are settled in a state have its numbers.
   pub state-row : StateRow x s values
   state-row = record {
-    numbers = λ e i. number-is e i (eqb (getD known e 0) 1) (number-there x (lookIn 65535 s) (x .count) known values settled e (i .there) i);
+    numbers = λ e i. number-is e i (eqb (getD known e 0) 1) (number-there x (lookIn allTracked s) (x .count) known values settled e (i .there) i);
   }

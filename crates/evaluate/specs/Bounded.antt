@@ -4,6 +4,7 @@ use Prim.Native.Nat.{ℕ, _≤_}
 use mathlib.Core.Path.{_≡_}
 use lib.IntN.{ℤ}
 use lib.Signed.{mag}
+use Rattle.whole.specs.Limits.{farthest}
 use Rattle.expressions.specs.Entries.{Entries}
 use Rattle.expressions.specs.Levels.{numberAt}
 use Rattle.expressions.specs.Reading.{reading}
@@ -12,7 +13,7 @@ use Rattle.expressions.specs.declared.Number.the-variants.{Known}
 
 -- Within a million of 0, where it is known.
 abbrev pub Small : Number → Type 0
-Small a = (z : ℤ) → a ≡ Known z → mag z ≤ 1000000
+Small a = (z : ℤ) → a ≡ Known z → mag z ≤ farthest
 
 -- So reads every entry, at every level.
 unfoldable pub Bounded : Entries → (ℕ → Number) → Type 0

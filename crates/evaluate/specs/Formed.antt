@@ -7,6 +7,7 @@ use mathlib.Core.List.{List}
 use lib.ListN.{getD}
 use lib.IntN.{ℤ, pos}
 use lib.Signed.{_≤ℤ_}
+use Rattle.expressions.specs.Limits.{mostVariables}
 use Rattle.expressions.specs.Entries.{Entries}
 use Rattle.expressions.specs.Meaning.{State, valueOf}
 use Rattle.expressions.specs.Reading.{hasBit}
@@ -33,7 +34,7 @@ pub record Ready (x : Entries) (t : ℕ) (v : List ℤ) : Type 0 where
 -- The entries can be read in the state s.
 pub record Grounded (x : Entries) (s : State) : Type 0 where
   pub variables : ℕ
-  pub few : variables ≤ 16
+  pub few : variables ≤ mostVariables
   pub bound : ℕ → Range
   pub formed : Formed x variables bound
   pub low : (i : ℕ) → bound i .low ≤ℤ valueOf s i

@@ -4,18 +4,22 @@ ghost use Prim.Native.Nat.{_≤_};
 ghost use lib.ListN.{getD, length};
 ghost use lib.IntN.{pos};
 ghost use lib.Signed.{mag};
+ghost use Rattle.folder.specs.Fields.{fieldLimit};
 ghost use Rattle.folder.specs.Contents.{countOf};
 ghost use Rattle.folder.specs.Tab.{fill};
+ghost use Rattle.whole.specs.Limits.{farthest};
 ghost use Rattle.expressions.specs.Entries.{entriesOf};
 ghost use Rattle.expressions.specs.Levels.{numberAt, truthAt};
 ghost use Rattle.expressions.specs.Meaning.{truthIn};
 ghost use Rattle.expressions.specs.Operations.{arithZ, relates};
-ghost use Rattle.expressions.specs.Reading.{arithN, chooseN, compareN, notT, andT, orT, joinT, lookIn, reading, readNumber, readTruth};
+ghost use Rattle.expressions.specs.Reading.{arithN, chooseN, compareN, notT, andT, orT, joinT, lookIn, reading, readNumber, readTruth, isTrue};
 ghost use Rattle.expressions.specs.Right.{IsTruth};
 ghost use Rattle.evaluate.specs.Bounded.{Small, Bounded};
 ghost use Rattle.evaluate.specs.Formed.{Ready, Grounded};
 ghost use Rattle.evaluate.specs.Settled.{asNumber, flagOf, contentOf, numberFrom, truthFrom, entryReading, flagAt, contentAt, Settled};
+use expressions::ALL_TRACKED;
 use expressions::Arith;
+use expressions::DEEPEST;
 use expressions::Join;
 use expressions::Number;
 use expressions::NumberForm;
@@ -43,7 +47,7 @@ pub fn look_in(t: usize, v: &[i64], i: usize) -> Number
 
 // Operations on numbers, where both are known.
 pub fn arith_of(k: Arith, a: i64, b: i64) -> i64
-    requires { ⌜ (mag a ≤ 1000000) × (mag b ≤ 1000000) ⌝ }
+    requires { ⌜ (mag a ≤ farthest) × (mag b ≤ farthest) ⌝ }
     ensures { λ r. ⌜ r ≡ arithZ k a b ⌝ }
 {
     match k {
@@ -164,7 +168,7 @@ pub fn joined(k: Join, a: Truth, b: Truth) -> Truth
 // of numbers and of truths call each other; the levels left fall.
 pub fn read_number(x: &[u8], t: usize, v: &[i64], e: usize, left: usize) -> Number
     requires { ⌜ Bounded (entriesOf (now x)) (lookIn t (now v)) ⌝ }
-    requires { ⌜ e ≤ 65536 ⌝ }
+    requires { ⌜ e ≤ fieldLimit ⌝ }
     ensures { λ r. ⌜ r ≡ numberAt (reading (lookIn t (now (v .entry)))) (entriesOf (now (x .entry))) left e ⌝ }
 {
     if left == 0 {
@@ -191,7 +195,7 @@ pub fn read_number(x: &[u8], t: usize, v: &[i64], e: usize, left: usize) -> Numb
 
 pub fn read_truth(x: &[u8], t: usize, v: &[i64], e: usize, left: usize) -> Truth
     requires { ⌜ Bounded (entriesOf (now x)) (lookIn t (now v)) ⌝ }
-    requires { ⌜ e ≤ 65536 ⌝ }
+    requires { ⌜ e ≤ fieldLimit ⌝ }
     ensures { λ r. ⌜ r ≡ truthAt (reading (lookIn t (now (v .entry)))) (entriesOf (now (x .entry))) left e ⌝ }
 {
     if left == 0 {
@@ -212,27 +216,34 @@ pub fn read_truth(x: &[u8], t: usize, v: &[i64], e: usize, left: usize) -> Truth
     }
 }
 
-// How entry e reads as a truth. The depth of an expression is at most 12.
+// How entry e reads as a truth: no expression is deeper than `DEEPEST`.
 pub fn truth_at(x: &[u8], t: usize, v: &[i64], e: usize) -> Truth
     requires { ⌜ Ready (entriesOf (now x)) t (now v) ⌝ }
-    requires { ⌜ e ≤ 65536 ⌝ }
+    requires { ⌜ e ≤ fieldLimit ⌝ }
     ensures { λ r. ⌜ r ≡ readTruth (entriesOf (now (x .entry))) (lookIn t (now (v .entry))) e ⌝ }
 {
-    read_truth(x, t, v, e, 12)
+    read_truth(x, t, v, e, DEEPEST)
 }
 
-// Whether entry e holds in the state s, which is the label that tracks every variable, of 16 at most.
-pub fn truth_in(x: &[u8], s: &[i64], e: usize) -> bool
-    requires { ⌜ Grounded (entriesOf (now x)) (now s) ⌝ }
-    requires { ⌜ IsTruth (entriesOf (now x)) e ⌝ }
-    requires { ⌜ e ≤ 65536 ⌝ }
-    ensures { λ r. ⌜ r ≡ truthIn (entriesOf (now (x .entry))) (now (s .entry)) e ⌝ }
+// Whether a truth reads true: an unknown one does not.
+fn is_true(t: Truth) -> bool
+    ensures { λ r. ⌜ r ≡ isTrue t ⌝ }
 {
-    match truth_at(x, 65535, s, e) {
+    match t {
         Truth::True => true,
         Truth::False => false,
         Truth::Unknown => false,
     }
+}
+
+// Whether entry e holds in the state s, which is the label that tracks every variable.
+pub fn truth_in(x: &[u8], s: &[i64], e: usize) -> bool
+    requires { ⌜ Grounded (entriesOf (now x)) (now s) ⌝ }
+    requires { ⌜ IsTruth (entriesOf (now x)) e ⌝ }
+    requires { ⌜ e ≤ fieldLimit ⌝ }
+    ensures { λ r. ⌜ r ≡ truthIn (entriesOf (now (x .entry))) (now (s .entry)) e ⌝ }
+{
+    is_true(truth_at(x, ALL_TRACKED, s, e))
 }
 
 // The readings of all entries in one label, as two rows: `known` has 1 for an entry that reads known, else 0, and `values`
@@ -296,7 +307,7 @@ pub fn settled_truth(known: &[u8], values: &[i64], e: usize) -> Truth
 fn settle_number(x: &[u8], t: usize, v: &[i64], known: &[u8], values: &[i64], e: usize) -> Number
     requires { ⌜ Ready (entriesOf (now x)) t (now v) ⌝ }
     requires { ⌜ Settled (entriesOf (now x)) (lookIn t (now v)) e (now known) (now values) ⌝ }
-    requires { ⌜ e ≤ 65536 ⌝ }
+    requires { ⌜ e ≤ fieldLimit ⌝ }
     ensures { λ r. ⌜ r ≡ readNumber (entriesOf (now (x .entry))) (lookIn t (now (v .entry))) e ⌝ }
 {
     let f = expressions::number_form(x, e);
@@ -324,7 +335,7 @@ fn settle_number(x: &[u8], t: usize, v: &[i64], known: &[u8], values: &[i64], e:
 fn settle_truth(x: &[u8], t: usize, v: &[i64], known: &[u8], values: &[i64], e: usize) -> Truth
     requires { ⌜ Ready (entriesOf (now x)) t (now v) ⌝ }
     requires { ⌜ Settled (entriesOf (now x)) (lookIn t (now v)) e (now known) (now values) ⌝ }
-    requires { ⌜ e ≤ 65536 ⌝ }
+    requires { ⌜ e ≤ fieldLimit ⌝ }
     ensures { λ r. ⌜ r ≡ readTruth (entriesOf (now (x .entry))) (lookIn t (now (v .entry))) e ⌝ }
 {
     let f = expressions::truth_form(x, e);
@@ -352,7 +363,7 @@ fn settle_truth(x: &[u8], t: usize, v: &[i64], known: &[u8], values: &[i64], e: 
 fn settle_entry(x: &[u8], t: usize, v: &[i64], known: &[u8], values: &[i64], e: usize) -> Number
     requires { ⌜ Ready (entriesOf (now x)) t (now v) ⌝ }
     requires { ⌜ Settled (entriesOf (now x)) (lookIn t (now v)) e (now known) (now values) ⌝ }
-    requires { ⌜ e ≤ 65536 ⌝ }
+    requires { ⌜ e ≤ fieldLimit ⌝ }
     ensures { λ r. ⌜ r ≡ entryReading (entriesOf (now (x .entry))) (lookIn t (now (v .entry))) e ⌝ }
 {
     if expressions::is_number(x, e) {
@@ -365,7 +376,7 @@ fn settle_entry(x: &[u8], t: usize, v: &[i64], known: &[u8], values: &[i64], e: 
 // Fills the rows, upward.
 pub fn settle(x: &[u8], t: usize, v: &[i64], known: &mut [u8], values: &mut [i64])
     requires { ⌜ Ready (entriesOf (now x)) t (now v) ⌝ }
-    requires { ⌜ countOf 8 (now x) ≤ 65536 ⌝ }
+    requires { ⌜ countOf 8 (now x) ≤ fieldLimit ⌝ }
     requires { ⌜ (countOf 8 (now x) ≤ length (now known)) × (countOf 8 (now x) ≤ length (now values)) ⌝ }
     ensures { λ _. ⌜ now (known .exit) ≡ fill (countOf 8 (now (x .entry))) (flagAt (entriesOf (now (x .entry))) (lookIn t (now (v .entry)))) (now (known .entry)) ⌝ }
     ensures { λ _. ⌜ now (values .exit) ≡ fill (countOf 8 (now (x .entry))) (contentAt (entriesOf (now (x .entry))) (lookIn t (now (v .entry)))) (now (values .entry)) ⌝ }

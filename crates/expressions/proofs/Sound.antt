@@ -8,7 +8,7 @@ use Rattle.folder.specs.Pick.{pick}
 use Rattle.expressions.specs.Entries.{Entries}
 use Rattle.expressions.specs.Operations.{arithZ, relates}
 use Rattle.expressions.specs.Meaning.{State, valueOf, joins, meaning, numberIn, truthIn}
-use Rattle.expressions.specs.Reading.{knownTruth, arithN, chooseN, compareN, notT, andT, orT, joinT, reading, readNumber, readTruth}
+use Rattle.expressions.specs.Reading.{knownTruth, arithN, chooseN, compareN, notT, andT, orT, joinT, reading, readNumber, readTruth, isTrue}
 use Rattle.expressions.specs.declared.Arith.{Arith}
 use Rattle.expressions.specs.declared.Relation.{Relation}
 use Rattle.expressions.specs.declared.Join.{Join}
@@ -118,7 +118,7 @@ false-is known-true e = cc
 false-is known-false e = refl
 false-is open-truth e = cc
 
-pub known-truth : {a : Truth} {b : Bool} → SaysT a b → (a ≡ Unknown → ⊥) → a ≡ knownTruth b
-known-truth known-true h = refl
-known-truth known-false h = refl
-known-truth open-truth h = absurd (h refl)
+pub is-true : {a : Truth} {b : Bool} → SaysT a b → (a ≡ Unknown → ⊥) → isTrue a ≡ b
+is-true known-true h = refl
+is-true known-false h = refl
+is-true open-truth h = absurd (h refl)

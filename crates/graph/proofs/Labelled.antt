@@ -15,10 +15,10 @@ use Rattle.folder.specs.Pick.{pick}
 use Rattle.folder.specs.Tab.{tab, passing}
 use Rattle.folder.proofs.TabLaws.{length-tab, getD-tab, passing-at, passing-has}
 use Rattle.expressions.specs.Meaning.{State, valueOf, numberIn, truthIn}
-use Rattle.expressions.specs.Reading.{lookIn, isTrue, knownTruth}
+use Rattle.expressions.specs.Reading.{lookIn}
 use Rattle.expressions.specs.declared.Number.the-variants.{Known, Unknown as Open}
 use Rattle.expressions.proofs.Bits.{bit-below}
-use Rattle.expressions.proofs.Sound.{Says, SaysT, number-sound, truth-sound, known-is, true-is, false-is, known-truth}
+use Rattle.expressions.proofs.Sound.{Says, SaysT, number-sound, truth-sound, known-is, true-is, false-is, is-true}
 use Rattle.model.specs.Model.{Model, firstRecord}
 use Rattle.model.specs.Chances.{mdp, next, initialState}
 use Rattle.model.specs.Valid.{ModelRight}
@@ -68,10 +68,6 @@ kind-of-number Kind.expanded = refl
 kind-of-number Kind.covered = refl
 kind-of-number Kind.target = refl
 
-true-of-known : (b : Bool) → isTrue (knownTruth b) ≡ b
-true-of-known true = refl
-true-of-known false = refl
-
 module _ (M : Model) (R : ModelRight M) (G : Simulation) (K : ContentRight M G) (A : RulesRight M G) where
   tracked-there : (n : ℕ) → n < G .nodes → (i : ℕ) → tracks G n i ≡ true → i < M .variables
   tracked-there n l i t = bit-below (G .tracked n) (M .variables) i (K .nodes n l .bits) t
@@ -119,7 +115,7 @@ module _ (M : Model) (R : ModelRight M) (G : Simulation) (K : ContentRight M G) 
     edge-on e h s c = true-is (says-truth n l s c (M .guard (G .command n e))) (true-decided _ .yes (edge-passes e h))
 
     enabled-reads : (d : ℕ) → d < M .commands → (s : State) → Contains M G n s → truthIn (M .entries) s (M .guard d) ≡ true → enabledIn M G n d ≡ true
-    enabled-reads d h s c o = ap isTrue (known-truth (says-truth n l s c (M .guard d)) (A .a2 n l .guards x d h) ∙ ap knownTruth o)
+    enabled-reads d h s c o = is-true (says-truth n l s c (M .guard d)) (A .a2 n l .guards x d h) ∙ o
 
     edge-every : (d : ℕ) → d < M .commands → (s : State) → Contains M G n s → truthIn (M .entries) s (M .guard d) ≡ true
         → (e : ℕ) × (e < G .edges n) × (G .command n e ≡ d)
@@ -187,8 +183,7 @@ module _ (M : Model) (R : ModelRight M) (G : Simulation) (K : ContentRight M G) 
   -- "Enabled" as document 01 has it, in the concrete label, is what B1 reads in the abstract one.
   pub enabled-concrete : (n : ℕ) → n < G .nodes → G .kind n ≡ 1 → (d : ℕ) → d < M .commands
       → enabledIn M G n d ≡ truthIn (M .entries) (concreteState M G n) (M .guard d)
-  enabled-concrete n l x d h =
-      ap isTrue (known-truth (says-truth n l (concreteState M G n) (own n l) (M .guard d)) (A .a2 n l .guards x d h)) ∙ true-of-known (truthIn (M .entries) (concreteState M G n) (M .guard d))
+  enabled-concrete n l x d h = is-true (says-truth n l (concreteState M G n) (own n l) (M .guard d)) (A .a2 n l .guards x d h)
 
   pub root-contains : 0 < G .nodes → Contains M G 0 (initialState M)
   root-contains l = subst (λ (s : State). Contains M G 0 s) (K .initial) (own 0 l)

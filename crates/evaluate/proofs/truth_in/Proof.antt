@@ -1,7 +1,8 @@
-use mathlib.Core.Path.{_∙_, sym}
+use mathlib.Core.Path.{_∙_, ap}
 use borrow.Author.Needs.{needs}
 use Rattle.expressions.specs.Entries.{entriesOf}
-use Rattle.evaluate.proofs.Readable.{ready, truth-true, truth-false, truth-open}
+use Rattle.expressions.specs.Reading.{isTrue}
+use Rattle.evaluate.proofs.Readable.{ready, truth-is}
 use Rattle.evaluate.proofs.truth_in.Statement.{statement}
 use Rattle.evaluate.proofs.truth_in.Tie as tie
 
@@ -10,21 +11,9 @@ truth-at-requires c κs = let s = c .before in (ready (entriesOf (s .args .x .no
 
 returns : tie.Need-returns
 returns c =
-    let r = c .before .before in
+    let r = c .before in
     let s = r .before .before in
-    truth-true (entriesOf (s .args .x .now)) (s .args .s .now) (s .pre .0) (s .args .e) (sym (r .truth-at .ensures) ∙ c .enum-told .given .1)
-
-returns-2 : tie.Need-returns-2
-returns-2 c =
-    let r = c .before .before in
-    let s = r .before .before in
-    truth-false (entriesOf (s .args .x .now)) (s .args .s .now) (s .pre .0) (s .args .e) (sym (r .truth-at .ensures) ∙ c .enum-told2 .given .1)
-
-returns-3 : tie.Need-returns-3
-returns-3 c =
-    let r = c .before .before in
-    let s = r .before .before in
-    absurd (truth-open (entriesOf (s .args .x .now)) (s .args .s .now) (s .pre .0) (s .args .e) (s .pre .1 .0) (sym (r .truth-at .ensures) ∙ c .enum-told3 .given .1))
+    c .is-true .ensures ∙ ap isTrue (r .truth-at .ensures) ∙ truth-is (entriesOf (s .args .x .now)) (s .args .s .now) (s .pre .0) (s .args .e) (s .pre .1 .0)
 
 pub truth-in-spec : {M : Type 1} → statement M
-truth-in-spec = tie.close (tie.spec truth-at-requires (λ c. search needs) (λ c. search needs) (λ c. search needs) returns returns-2 returns-3)
+truth-in-spec = tie.close (tie.spec truth-at-requires (λ c. search needs) returns)
