@@ -4,11 +4,13 @@ ghost use mathlib.Core.List.{[]};
 ghost use Prim.Native.Nat.{_+_, _≤_};
 ghost use lib.ListN.{drop};
 ghost use Rattle.mdp.specs.Sums.{sum};
+ghost use Rattle.folder.specs.Fields.{fieldLimit};
 ghost use Rattle.folder.specs.Scan.{firstBad};
 ghost use Rattle.folder.specs.Contents.{body, countOf, field};
 ghost use Rattle.folder.specs.Table.{outcome};
 ghost use Rattle.expressions.specs.Entries.{entriesOf};
 ghost use Rattle.expressions.specs.Ranges.{boundIn};
+ghost use Rattle.model.specs.Limits.{mostVariables};
 ghost use Rattle.model.specs.Layout.{variableCount};
 ghost use Rattle.model.specs.Model.{modelOf, firstRecord, modelIn};
 ghost use Rattle.model.specs.Rules.{variableFits, termsFit, commandFits, recordsAddUp, staysIn, assignedFits, branchFits, weightsTotal};
@@ -23,7 +25,7 @@ use model::MOST_BRANCHES;
 
 // Row 4, variable v of the variable body y.
 fn variable_fits(y: &[u8], v: usize) -> bool
-    requires { ⌜ v ≤ 65536 ⌝ }
+    requires { ⌜ v ≤ fieldLimit ⌝ }
     ensures { λ r. ⌜ r ≡ variableFits (modelIn [] (now (y .entry)) [] [] []) v ⌝ }
 {
     let low = folder::signed_field(6, y, v, 0);
@@ -34,7 +36,7 @@ fn variable_fits(y: &[u8], v: usize) -> bool
 }
 
 fn first_bad_variable(m: &[u8], n: usize) -> usize
-    requires { ⌜ n ≤ 65536 ⌝ }
+    requires { ⌜ n ≤ fieldLimit ⌝ }
     ensures { λ r. ⌜ r ≡ firstBad (variableFits (modelOf (now (m .entry)))) n ⌝ }
 {
     let y = folder::body(m, 1);
@@ -76,7 +78,7 @@ fn first_bad_term(m: &[u8]) -> usize
 
 // Row 8, command c of the command body k.
 fn command_fits(x: &[u8], k: &[u8], c: usize) -> bool
-    requires { ⌜ c ≤ 65536 ⌝ }
+    requires { ⌜ c ≤ fieldLimit ⌝ }
     ensures { λ r. ⌜ r ≡ commandFits (modelIn [] [] (now (x .entry)) (now (k .entry)) []) c ⌝ }
 {
     let guard = folder::field(4, k, c, 0);
@@ -85,7 +87,7 @@ fn command_fits(x: &[u8], k: &[u8], c: usize) -> bool
 }
 
 fn first_bad_command(m: &[u8], n: usize) -> usize
-    requires { ⌜ n ≤ 65536 ⌝ }
+    requires { ⌜ n ≤ fieldLimit ⌝ }
     ensures { λ r. ⌜ r ≡ firstBad (commandFits (modelOf (now (m .entry)))) n ⌝ }
 {
     let x = folder::body(m, 2);
@@ -103,7 +105,7 @@ fn first_bad_command(m: &[u8], n: usize) -> usize
 
 // Row 9.
 fn records_add_up(m: &[u8]) -> bool
-    requires { ⌜ countOf 4 (body (now m) 3) ≤ 65536 ⌝ }
+    requires { ⌜ countOf 4 (body (now m) 3) ≤ fieldLimit ⌝ }
     ensures { λ r. ⌜ r ≡ recordsAddUp (modelOf (now (m .entry))) ⌝ }
 {
     let k = folder::body(m, 3);
@@ -113,7 +115,7 @@ fn records_add_up(m: &[u8]) -> bool
 // Entry e is a number, and its range, which the rows hold, stays in that of variable v.
 fn stays_in(x: &[u8], y: &[u8], lows: &[i64], highs: &[i64], e: usize, v: usize) -> bool
     requires { ⌜ Held (now x) (now y) (now lows) (now highs) ⌝ }
-    requires { ⌜ (e ≤ 65536) × (v ≤ 65536) ⌝ }
+    requires { ⌜ (e ≤ fieldLimit) × (v ≤ fieldLimit) ⌝ }
     ensures { λ r. ⌜ r ≡ staysIn (entriesOf (now (x .entry))) (boundIn (now (y .entry))) e v ⌝ }
 {
     if expressions::is_number(x, e) {
@@ -135,7 +137,7 @@ fn first_bad_assigned(
     n: usize,
 ) -> usize
     requires { ⌜ Held (now x) (now y) (now lows) (now highs) ⌝ }
-    requires { ⌜ (n ≡ countOf 6 (now y)) × (n ≤ 16) × (r ≤ 65536) ⌝ }
+    requires { ⌜ (n ≡ countOf 6 (now y)) × (n ≤ mostVariables) × (r ≤ fieldLimit) ⌝ }
     ensures { λ p. ⌜ p ≡ firstBad (assignedFits (modelIn [] (now (y .entry)) (now (x .entry)) [] (now (b .entry))) r) n ⌝ }
 {
     let size = 2 + 2 * n;
@@ -162,7 +164,7 @@ fn branch_fits(
     n: usize,
 ) -> bool
     requires { ⌜ Held (now x) (now y) (now lows) (now highs) ⌝ }
-    requires { ⌜ (n ≡ countOf 6 (now y)) × (n ≤ 16) × (r ≤ 65536) ⌝ }
+    requires { ⌜ (n ≡ countOf 6 (now y)) × (n ≤ mostVariables) × (r ≤ fieldLimit) ⌝ }
     ensures { λ p. ⌜ p ≡ branchFits (modelIn [] (now (y .entry)) (now (x .entry)) [] (now (b .entry))) r ⌝ }
 {
     let weight = folder::field(2 + 2 * n, b, r, 0);
@@ -171,7 +173,7 @@ fn branch_fits(
 
 fn first_bad_branch(m: &[u8], lows: &[i64], highs: &[i64], n: usize) -> usize
     requires { ⌜ Held (body (now m) 2) (body (now m) 1) (now lows) (now highs) ⌝ }
-    requires { ⌜ (variableCount (now m) ≤ 16) × (n ≤ 65536) ⌝ }
+    requires { ⌜ (variableCount (now m) ≤ mostVariables) × (n ≤ fieldLimit) ⌝ }
     ensures { λ r. ⌜ r ≡ firstBad (branchFits (modelOf (now (m .entry)))) n ⌝ }
 {
     let x = folder::body(m, 2);
@@ -191,7 +193,7 @@ fn first_bad_branch(m: &[u8], lows: &[i64], highs: &[i64], n: usize) -> usize
 
 // The sum of the weights of n branch records from `first` on.
 fn weight_sum(size: usize, b: &[u8], first: usize, n: usize) -> usize
-    requires { ⌜ (size ≤ 65536) × (first + n ≤ 65536) ⌝ }
+    requires { ⌜ (size ≤ fieldLimit) × (first + n ≤ fieldLimit) ⌝ }
     ensures { λ r. ⌜ r ≡ sum n (λ i _. field size (now (b .entry)) (first + i) 0) ⌝ }
 {
     let mut sum = 0;
@@ -205,7 +207,7 @@ fn weight_sum(size: usize, b: &[u8], first: usize, n: usize) -> usize
 
 // Row 11: `at` walks the branch records with the commands.
 fn first_bad_total(m: &[u8], n: usize) -> usize
-    requires { ⌜ (variableCount (now m) ≤ 16) × (n ≤ 65536) × (firstRecord (modelOf (now m)) n ≤ 65536) ⌝ }
+    requires { ⌜ (variableCount (now m) ≤ mostVariables) × (n ≤ fieldLimit) × (firstRecord (modelOf (now m)) n ≤ fieldLimit) ⌝ }
     ensures { λ r. ⌜ r ≡ firstBad (weightsTotal (modelOf (now (m .entry)))) n ⌝ }
 {
     let total = folder::field(4, folder::body(m, 0), 0, 0);

@@ -8,7 +8,7 @@ use mathlib.Core.List.{List}
 use lib.ListN.{getD, length}
 use lib.IntN.{ℤ, pos}
 use Rattle.folder.specs.Pick.{implies}
-use Rattle.folder.specs.Fields.{u16, signed16}
+use Rattle.folder.specs.Fields.{fieldLimit, u16, signed16}
 use Rattle.folder.specs.Contents.{body, field}
 use Rattle.folder.proofs.ContentsLaws.{record-whole}
 use Rattle.folder.proofs.Decides.{all-same, all-both}
@@ -126,7 +126,7 @@ module _ {m g : List ℕ} {n : ℕ} {cs eb : List ℕ} {edges e p c branches : �
           };
     })
 
-    pub records-fit : getD firsts c 0 + branches ≤ 65536
+    pub records-fit : getD firsts c 0 + branches ≤ fieldLimit
     records-fit = omega (arith, first-is, branches-are, records-small (node .model) _ command-there)
 
     pub edge-tested : {known : List ℕ} {values state : List ℤ} → LabelSettled m g n known values → StateSettled m g n state → {vars : ℕ} {bs nb : List ℕ} → Held m g vars bs nb

@@ -12,6 +12,7 @@ use Rattle.folder.specs.Tab.{tab}
 use Rattle.folder.proofs.Decides.{passes, everywhere, whenever}
 use Rattle.folder.proofs.TabLaws.{length-tab, getD-tab}
 use Rattle.whole.proofs.Order.{equal-decided}
+use Rattle.expressions.specs.Limits.{allTracked}
 use Rattle.expressions.specs.Entries.{entriesOf}
 use Rattle.expressions.specs.Meaning.{valueOf}
 use Rattle.expressions.specs.Reading.{lookIn}
@@ -78,11 +79,11 @@ module _ {m g : List ℕ} {n : ℕ} (node : NodeOf m g n) where
     high = λ i. inside i .high;
   }
 
-  pub state-ready : Ready (M .entries) 65535 (concreteState M G n)
+  pub state-ready : Ready (M .entries) allTracked (concreteState M G n)
   state-ready = ready (M .entries) (concreteState M G n) state-grounded
 
   -- Rows that are settled in the state have its numbers.
-  pub state-settled : {known : List ℕ} {values : List ℤ} → Settled (M .entries) (lookIn 65535 (concreteState M G n)) (M .entries .count) known values → StateSettled m g n values
+  pub state-settled : {known : List ℕ} {values : List ℤ} → Settled (M .entries) (lookIn allTracked (concreteState M G n)) (M .entries .count) known values → StateSettled m g n values
   state-settled {known} {values} s = state-row (M .entries) (concreteState M G n) state-grounded known values s
 
   -- ---- the label: where A1 holds, its tracked values are the state's

@@ -1,18 +1,19 @@
 // The rules of a node that read expressions: A2, B1 and B2, rows 19 to 21 of the table. How entries read is settled
 // before, once for the node: `known` and `values` for its label, and `state` for its concrete state.
+use expressions::ALL_TRACKED;
+use expressions::MOST_VARIABLES;
 use graph::EXPANDED;
 use graph::TARGET;
-use model::MOST_VARIABLES;
 ghost use mathlib.Core.Path.{_≡_};
 ghost use mathlib.Core.Bool.{true};
 ghost use Prim.Native.Nat.{_+_, _*_, _<_, _≤_, _^_};
 ghost use lib.ListN.{length, getD};
 ghost use lib.IntN.{pos};
-ghost use Rattle.folder.specs.Fields.{u16, signed16};
+ghost use Rattle.folder.specs.Fields.{fieldLimit, u16, signed16};
 ghost use Rattle.folder.specs.Contents.{field};
 ghost use Rattle.folder.specs.Scan.{all};
 ghost use Rattle.folder.specs.Tab.{fill};
-ghost use Rattle.model.specs.Limits.{mostExpressions};
+ghost use Rattle.model.specs.Limits.{mostVariables, mostExpressions, mostCommands};
 ghost use Rattle.model.specs.Layout.{branchSize};
 ghost use Rattle.model.specs.Model.{modelOf};
 ghost use Rattle.model.specs.Valid.{Valid};
@@ -25,7 +26,7 @@ ghost use Rattle.expand.specs.Tests.{knownAt, falseAt, readsAt, namesAt,
 // Fills the front of a row with the values of node n whose first is field f: 6 for the concrete label, and as many more
 // as there are variables for the abstract one.
 pub fn load_row(nb: &[u8], vars: usize, n: usize, f: usize, row: &mut [i64])
-    requires { ⌜ (vars ≤ 16) × (n ≤ 65536) × (f ≤ 65000) ⌝ }
+    requires { ⌜ (vars ≤ mostVariables) × (n ≤ fieldLimit) × (f ≤ 65000) ⌝ }
     requires { ⌜ vars ≤ length (now row) ⌝ }
     ensures { λ _. ⌜ now (row .exit) ≡ fill vars (λ v. signed16 (field (nodeSize vars) (now (nb .entry)) n (f + v))) (now (row .entry)) ⌝ }
 {
@@ -39,7 +40,7 @@ pub fn load_row(nb: &[u8], vars: usize, n: usize, f: usize, row: &mut [i64])
 
 fn command_count(m: &[u8]) -> usize
     requires { ⌜ Valid (now m) ⌝ }
-    ensures { λ r. ⌜ (r ≡ modelOf (now (m .entry)) .commands) × (r ≤ 64) ⌝ }
+    ensures { λ r. ⌜ (r ≡ modelOf (now (m .entry)) .commands) × (r ≤ mostCommands) ⌝ }
 {
     folder::count_of(4, folder::body(m, 3))
 }
@@ -47,8 +48,8 @@ fn command_count(m: &[u8]) -> usize
 // Field f of node n.
 fn node_field(m: &[u8], g: &[u8], n: usize, f: usize) -> usize
     requires { ⌜ NodeOf (now m) (now g) n ⌝ }
-    requires { ⌜ f ≤ 65536 ⌝ }
-    ensures { λ r. ⌜ (r ≡ nodeField (modelOf (now (m .entry))) (now (g .entry)) n f) × (r < 65536) ⌝ }
+    requires { ⌜ f ≤ fieldLimit ⌝ }
+    ensures { λ r. ⌜ (r ≡ nodeField (modelOf (now (m .entry))) (now (g .entry)) n f) × (r < fieldLimit) ⌝ }
 {
     folder::field(
         graph::node_size(graph::variable_count(m)),
@@ -86,7 +87,7 @@ pub fn settle_state(m: &[u8], g: &[u8], n: usize, known: &mut [u8], state: &mut 
     let nb = folder::body(g, 0);
     let mut row = [0i64; MOST_VARIABLES];
     load_row(nb, vars, n, 6, &mut row);
-    evaluate::settle(x, 65535, &row[..vars], known, state);
+    evaluate::settle(x, ALL_TRACKED, &row[..vars], known, state);
 }
 
 // Entry e reads known; false; and known with the value z, which is 1 for true.
@@ -223,7 +224,7 @@ fn variable_follows(
     set: usize,
     v: usize,
 ) -> bool
-    requires { ⌜ (vars ≤ 16) × (v < vars) ⌝ }
+    requires { ⌜ (vars ≤ mostVariables) × (v < vars) ⌝ }
     requires { ⌜ Leads vars (now nb) (now bs) from to ⌝ }
     requires { ⌜ RowsLong (now known) (now values) (now state) ⌝ }
     ensures { λ t. ⌜ (set ≡ u16 (now (nb .entry)) (to + 10) → t ≡ variableFollows vars (now (nb .entry)) (now (bs .entry)) (now (known .entry)) (now (values .entry)) (now (state .entry)) from to v) ⌝ }
@@ -246,7 +247,7 @@ fn branch_follows(
     r: usize,
     s: usize,
 ) -> bool
-    requires { ⌜ (vars ≤ 16) × (r ≤ 65536) × (s ≤ 65536) ⌝ }
+    requires { ⌜ (vars ≤ mostVariables) × (r ≤ fieldLimit) × (s ≤ fieldLimit) ⌝ }
     requires { ⌜ Leads vars (now nb) (now bs) (branchSize vars * r) (nodeSize vars * s) ⌝ }
     requires { ⌜ RowsLong (now known) (now values) (now state) ⌝ }
     ensures { λ t. ⌜ t ≡ branchFollows vars (now (nb .entry)) (now (bs .entry)) (now (known .entry)) (now (values .entry)) (now (state .entry)) r s ⌝ }
@@ -278,7 +279,7 @@ fn branches_follow(
     branches: usize,
     p: usize,
 ) -> bool
-    requires { ⌜ (vars ≤ 16) × (first + branches ≤ 65536) × (p < 2 ^ 40) ⌝ }
+    requires { ⌜ (vars ≤ mostVariables) × (first + branches ≤ fieldLimit) × (p < 2 ^ 40) ⌝ }
     requires { ⌜ AllLead vars (now nb) (now bs) (now eb) first branches p ⌝ }
     requires { ⌜ RowsLong (now known) (now values) (now state) ⌝ }
     ensures { λ t. ⌜ t ≡ branchesFollow vars (now (nb .entry)) (now (bs .entry)) (now (known .entry)) (now (values .entry)) (now (state .entry)) (now (eb .entry)) first branches p ⌝ }

@@ -8,11 +8,13 @@ ghost use mathlib.Core.Bool.{true};
 ghost use mathlib.Core.List.{List};
 ghost use Prim.Native.Nat.{ℕ, _+_, _<_, _≤_, _^_};
 ghost use lib.ListN.{length, drop};
+ghost use Rattle.folder.specs.Fields.{fieldLimit};
 ghost use Rattle.folder.specs.Pick.{implies};
 ghost use Rattle.folder.specs.Scan.{firstBad};
 ghost use Rattle.folder.specs.Table.{outcome};
 ghost use Rattle.folder.specs.Contents.{body};
 ghost use Rattle.whole.specs.Order.{eqZ};
+ghost use Rattle.model.specs.Limits.{mostVariables};
 ghost use Rattle.model.specs.Layout.{variableCount};
 ghost use Rattle.model.specs.Model.{modelOf};
 ghost use Rattle.model.specs.Rules.{between};
@@ -74,15 +76,15 @@ fn bytes_fit(g: &[u8]) -> bool
 }
 
 pub fn node_size(variables: usize) -> usize
-    requires { ⌜ variables ≤ 16 ⌝ }
-    ensures { λ r. ⌜ (r ≡ nodeSize variables) × (0 < r) × (r ≤ 76) ⌝ }
+    requires { ⌜ variables ≤ mostVariables ⌝ }
+    ensures { λ r. ⌜ (r ≡ nodeSize variables) × (0 < r) × (r ≤ nodeSize mostVariables) ⌝ }
 {
     12 + 4 * variables
 }
 
 pub fn variable_count(m: &[u8]) -> usize
     requires { ⌜ Valid (now m) ⌝ }
-    ensures { λ r. ⌜ (r ≡ variableCount (now (m .entry))) × (r ≤ 16) ⌝ }
+    ensures { λ r. ⌜ (r ≡ variableCount (now (m .entry))) × (r ≤ mostVariables) ⌝ }
 {
     model::variable_count(m)
 }
@@ -96,7 +98,7 @@ pub fn node_count(m: &[u8], g: &[u8]) -> usize
 
 // Row 14.
 fn nodes_fit(variables: usize, ns: &[u8]) -> bool
-    requires { ⌜ variables ≤ 16 ⌝ }
+    requires { ⌜ variables ≤ mostVariables ⌝ }
     ensures { λ r. ⌜ ((m g : List ℕ) → variables ≡ variableCount m → now (ns .entry) ≡ body g 0 → r ≡ nodesFit (modelOf m) g) ⌝ }
 {
     let size = node_size(variables);
@@ -106,7 +108,7 @@ fn nodes_fit(variables: usize, ns: &[u8]) -> bool
 
 // Row 15: node n's values of variable v.
 fn value_fits(variables: usize, vs: &[u8], ns: &[u8], n: usize, v: usize) -> bool
-    requires { ⌜ (variables ≤ 16) × (n < 65536) × (v < 16) ⌝ }
+    requires { ⌜ (variables ≤ mostVariables) × (n < fieldLimit) × (v < mostVariables) ⌝ }
     ensures { λ r. ⌜ ((m g : List ℕ) → NodeBodies m g variables (now (vs .entry)) (now (ns .entry)) → r ≡ valuesFit (modelOf m) (simulationOf (modelOf m) g) n v) ⌝ }
 {
     let size = node_size(variables);
@@ -119,7 +121,7 @@ fn value_fits(variables: usize, vs: &[u8], ns: &[u8], n: usize, v: usize) -> boo
 }
 
 fn first_bad_value(variables: usize, vs: &[u8], ns: &[u8], n: usize) -> usize
-    requires { ⌜ (variables ≤ 16) × (n < 65536) ⌝ }
+    requires { ⌜ (variables ≤ mostVariables) × (n < fieldLimit) ⌝ }
     ensures { λ r. ⌜ ((m g : List ℕ) → NodeBodies m g variables (now (vs .entry)) (now (ns .entry)) → r ≡ firstBad (valuesFit (modelOf m) (simulationOf (modelOf m) g) n) variables) ⌝ }
 {
     let mut i = 0;
@@ -135,7 +137,7 @@ fn first_bad_value(variables: usize, vs: &[u8], ns: &[u8], n: usize) -> usize
 
 // Row 15.
 fn node_fits(variables: usize, vs: &[u8], ns: &[u8], n: usize) -> bool
-    requires { ⌜ (variables ≤ 16) × (n < 65536) ⌝ }
+    requires { ⌜ (variables ≤ mostVariables) × (n < fieldLimit) ⌝ }
     ensures { λ r. ⌜ ((m g : List ℕ) → NodeBodies m g variables (now (vs .entry)) (now (ns .entry)) → r ≡ nodeFits (modelOf m) (simulationOf (modelOf m) g) n) ⌝ }
 {
     let size = node_size(variables);
@@ -172,7 +174,7 @@ fn first_bad_node(m: &[u8], g: &[u8]) -> usize
 }
 
 fn first_bad_successor(es: &[u8], nodes: usize, k: usize, branches: usize) -> usize
-    requires { ⌜ (k < 2 ^ 40) × (branches < 65536) ⌝ }
+    requires { ⌜ (k < 2 ^ 40) × (branches < fieldLimit) ⌝ }
     ensures { λ r. ⌜ r ≡ firstBad (successorFits nodes (now (es .entry)) k) branches ⌝ }
 {
     let mut i = 0;
@@ -266,7 +268,7 @@ fn first_bad_edges(m: &[u8], g: &[u8]) -> usize
 
 // Row 17 at variable v.
 fn root_fits_at(variables: usize, vs: &[u8], ns: &[u8], v: usize) -> bool
-    requires { ⌜ (variables ≤ 16) × (v < 16) ⌝ }
+    requires { ⌜ (variables ≤ mostVariables) × (v < mostVariables) ⌝ }
     ensures { λ r. ⌜ ((m g : List ℕ) → NodeBodies m g variables (now (vs .entry)) (now (ns .entry)) → r ≡ eqZ (simulationOf (modelOf m) g .concrete 0 v) (modelOf m .initial v)) ⌝ }
 {
     let size = node_size(variables);

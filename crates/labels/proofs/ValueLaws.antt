@@ -11,6 +11,7 @@ use lib.ListN.{length, getD}
 use Rattle.mdp.specs.Sums.{greatest}
 use Rattle.mdp.specs.Graph.{along}
 use Rattle.mdp.proofs.SumLaws.{greatest-above, greatest-below}
+use Rattle.folder.specs.Fields.{fieldLimit}
 use Rattle.folder.specs.Pick.{implies}
 use Rattle.folder.specs.Contents.{body, countOf, field, field4}
 use Rattle.folder.specs.Scan.{all}
@@ -52,7 +53,7 @@ module _ {m g values weights firsts : List ℕ} {n at : ℕ} (A : ValueReady m g
   abbrev G : Simulation
   G = simulationOf M g
 
-  pub few-enough : (variableCount m ≤ mostVariables) × (n ≤ 65536)
+  pub few-enough : (variableCount m ≤ mostVariables) × (n ≤ fieldLimit)
   few-enough = (limits (A .model .folder) .variables, omega (arith, A .here, A .folder .few))
 
   -- What the code reads: the bodies of commands and edges, and of node n the count of its edges.

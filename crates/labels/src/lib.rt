@@ -5,10 +5,10 @@ use graph::TARGET;
 use graph::UNITS;
 use graph::WAITING;
 ghost use mathlib.Core.Path.{_≡_};
-ghost use Prim.Native.Nat.{_*_, _<_, _≤_};
+ghost use Prim.Native.Nat.{_+_, _*_, _<_, _≤_};
 ghost use lib.ListN.{getD, length};
 ghost use Rattle.folder.specs.Contents.{countOf, field, field4};
-ghost use Rattle.folder.specs.Fields.{signed16};
+ghost use Rattle.folder.specs.Fields.{fieldLimit, field4Limit, signed16};
 ghost use Rattle.folder.specs.Scan.{firstBad};
 ghost use Rattle.whole.specs.Order.{eqZ};
 ghost use Rattle.model.specs.Limits.{mostVariables};
@@ -23,15 +23,15 @@ ghost use Rattle.labels.specs.Values.{ValueReady};
 
 // The 2-byte field f of node n.
 fn node_field(nb: &[u8], vars: usize, n: usize, f: usize) -> usize
-    requires { ⌜ (vars ≤ mostVariables) × (n ≤ 65536) × (f ≤ 65536) ⌝ }
-    ensures { λ r. ⌜ (r ≡ field (nodeSize vars) (now (nb .entry)) n f) × (r < 65536) ⌝ }
+    requires { ⌜ (vars ≤ mostVariables) × (n ≤ fieldLimit) × (f ≤ fieldLimit) ⌝ }
+    ensures { λ r. ⌜ (r ≡ field (nodeSize vars) (now (nb .entry)) n f) × (r < fieldLimit) ⌝ }
 {
     folder::field(graph::node_size(vars), nb, n, f)
 }
 
 // Two signed fields are equal where their bits are.
 fn same_field(nb: &[u8], vars: usize, n: usize, f: usize, k: usize, j: usize) -> bool
-    requires { ⌜ (vars ≤ mostVariables) × (n ≤ 65536) × (f ≤ 65536) × (k ≤ 65536) × (j ≤ 65536) ⌝ }
+    requires { ⌜ (vars ≤ mostVariables) × (n ≤ fieldLimit) × (f ≤ fieldLimit) × (k ≤ fieldLimit) × (j ≤ fieldLimit) ⌝ }
     ensures { λ r. ⌜ r ≡ eqZ (signed16 (field (nodeSize vars) (now (nb .entry)) n f)) (signed16 (field (nodeSize vars) (now (nb .entry)) k j)) ⌝ }
 {
     node_field(nb, vars, n, f) == node_field(nb, vars, k, j)
@@ -48,7 +48,7 @@ fn agrees_at(
     k: usize,
     v: usize,
 ) -> bool
-    requires { ⌜ (vars ≤ mostVariables) × (n ≤ 65536) × (f ≤ 22) × (k ≤ 65536) × (v < vars) ⌝ }
+    requires { ⌜ (vars ≤ mostVariables) × (n ≤ fieldLimit) × (f ≤ 6 + mostVariables) × (k ≤ fieldLimit) × (v < vars) ⌝ }
     ensures { λ r. ⌜ r ≡ agreesAt vars (now (nb .entry)) t u n f k v ⌝ }
 {
     !expressions::has_bit(t, v)
@@ -58,7 +58,7 @@ fn agrees_at(
 // The first variable of the set t that is not in the set u, or whose value in node n, from field f on, is not the one in
 // the label of node k.
 fn first_apart(nb: &[u8], vars: usize, t: usize, u: usize, n: usize, f: usize, k: usize) -> usize
-    requires { ⌜ (vars ≤ mostVariables) × (n ≤ 65536) × (f ≤ 22) × (k ≤ 65536) ⌝ }
+    requires { ⌜ (vars ≤ mostVariables) × (n ≤ fieldLimit) × (f ≤ 6 + mostVariables) × (k ≤ fieldLimit) ⌝ }
     ensures { λ r. ⌜ r ≡ firstBad (agreesAt vars (now (nb .entry)) t u n f k) vars ⌝ }
 {
     let mut v = 0;
@@ -74,7 +74,7 @@ fn first_apart(nb: &[u8], vars: usize, t: usize, u: usize, n: usize, f: usize, k
 
 // Row 18: the concrete label of node n lies in its label.
 pub fn a1(m: &[u8], g: &[u8], n: usize) -> bool
-    requires { ⌜ (variableCount (now m) ≤ mostVariables) × (n ≤ 65536) ⌝ }
+    requires { ⌜ (variableCount (now m) ≤ mostVariables) × (n ≤ fieldLimit) ⌝ }
     ensures { λ r. ⌜ r ≡ A1 (modelOf (now (m .entry))) (simulationOf (modelOf (now (m .entry))) (now (g .entry))) n ⌝ }
 {
     let vars = model::variable_count(m);
@@ -85,7 +85,7 @@ pub fn a1(m: &[u8], g: &[u8], n: usize) -> bool
 
 // Row 22: the cover of a covered node is there and is not covered.
 pub fn c3(m: &[u8], g: &[u8], n: usize) -> bool
-    requires { ⌜ (variableCount (now m) ≤ mostVariables) × (n ≤ 65536) ⌝ }
+    requires { ⌜ (variableCount (now m) ≤ mostVariables) × (n ≤ fieldLimit) ⌝ }
     ensures { λ r. ⌜ r ≡ C3 (modelOf (now (m .entry))) (simulationOf (modelOf (now (m .entry))) (now (g .entry))) n ⌝ }
 {
     let vars = model::variable_count(m);
@@ -98,7 +98,7 @@ pub fn c3(m: &[u8], g: &[u8], n: usize) -> bool
 
 // Row 23: the concrete label of a covered node lies in the cover's label.
 pub fn c1(m: &[u8], g: &[u8], n: usize) -> bool
-    requires { ⌜ (variableCount (now m) ≤ mostVariables) × (n ≤ 65536) ⌝ }
+    requires { ⌜ (variableCount (now m) ≤ mostVariables) × (n ≤ fieldLimit) ⌝ }
     ensures { λ r. ⌜ r ≡ C1 (modelOf (now (m .entry))) (simulationOf (modelOf (now (m .entry))) (now (g .entry))) n ⌝ }
 {
     let vars = model::variable_count(m);
@@ -114,7 +114,7 @@ pub fn c1(m: &[u8], g: &[u8], n: usize) -> bool
 
 // Row 24: a covered node tracks what its cover tracks, with the same values.
 pub fn c2(m: &[u8], g: &[u8], n: usize) -> bool
-    requires { ⌜ (variableCount (now m) ≤ mostVariables) × (n ≤ 65536) ⌝ }
+    requires { ⌜ (variableCount (now m) ≤ mostVariables) × (n ≤ fieldLimit) ⌝ }
     ensures { λ r. ⌜ r ≡ C2 (modelOf (now (m .entry))) (simulationOf (modelOf (now (m .entry))) (now (g .entry))) n ⌝ }
 {
     let vars = model::variable_count(m);
@@ -131,7 +131,7 @@ pub fn c2(m: &[u8], g: &[u8], n: usize) -> bool
 
 // The value of node k; past the last, 0.
 fn value_at(values: &[u32], k: usize) -> usize
-    ensures { λ r. ⌜ (r ≡ getD (now (values .entry)) k 0) × (r < 4294967296) ⌝ }
+    ensures { λ r. ⌜ (r ≡ getD (now (values .entry)) k 0) × (r < field4Limit) ⌝ }
 {
     if k < values.len() {
         values[k] as usize
@@ -142,7 +142,7 @@ fn value_at(values: &[u32], k: usize) -> usize
 
 // D times a value.
 fn limit_of(m: &[u8], value: usize) -> usize
-    requires { ⌜ value < 4294967296 ⌝ }
+    requires { ⌜ value < field4Limit ⌝ }
     ensures { λ r. ⌜ r ≡ modelOf (now (m .entry)) .total * value ⌝ }
 {
     folder::field(4, folder::body(m, 0), 0, 0) * value
@@ -179,7 +179,7 @@ pub fn value_rule(
 
 // The row's first elements become the 4-byte field 2 of each record; the later ones stay.
 fn fill_fields(size: usize, b: &[u8], row: &mut [u32])
-    requires { ⌜ (0 < size) × (size ≤ 65536) × (countOf size (now b) ≤ mostNodes) × (countOf size (now b) ≤ length (now row)) ⌝ }
+    requires { ⌜ (0 < size) × (size ≤ fieldLimit) × (countOf size (now b) ≤ mostNodes) × (countOf size (now b) ≤ length (now row)) ⌝ }
     ensures { λ _. ⌜ now (row .exit) ≡ fill (countOf size (now (b .entry))) (λ i. field4 size (now (b .entry)) i 2) (now (row .entry)) ⌝ }
 {
     let n = folder::count_of(size, b);

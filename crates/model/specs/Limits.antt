@@ -2,6 +2,7 @@
 -- Assumes nothing.
 use Prim.Native.Nat.{ℕ}
 use lib.IntN.{ℤ, pos, negsuc}
+use Rattle.expressions.specs.Limits as Expressions
 
 -- Bytes of the folder.
 abbrev pub leastBytes : ℕ
@@ -10,12 +11,12 @@ leastBytes = 40
 abbrev pub mostBytes : ℕ
 mostBytes = 40000
 
--- Records of the bodies; branches of a command.
+-- Records of the bodies; branches of a command. (expressions/specs/Limits.antt has the first two: 16 and 512.)
 abbrev pub mostVariables : ℕ
-mostVariables = 16
+mostVariables = Expressions.mostVariables
 
 abbrev pub mostExpressions : ℕ
-mostExpressions = 512
+mostExpressions = Expressions.mostExpressions
 
 abbrev pub mostCommands : ℕ
 mostCommands = 64

@@ -3,13 +3,14 @@
 use Prim.Native.Nat.{ℕ, _+_, _*_, _/_, _%_}
 use mathlib.Core.List.{List, [], _∷_, _++_}
 use lib.ListN.{length}
+use Rattle.folder.specs.Fields.{fieldLimit}
 
 -- Little-endian fields of 2 and of 4 bytes, and a list of the former.
 abbrev pub two : ℕ → List ℕ
 two n = n % 256 ∷ n / 256 % 256 ∷ []
 
 abbrev pub four : ℕ → List ℕ
-four n = two (n % 65536) ++ two (n / 65536)
+four n = two (n % fieldLimit) ++ two (n / fieldLimit)
 
 abbrev pub fields : List ℕ → List ℕ
 fields [] = []

@@ -2,6 +2,7 @@
 ghost use mathlib.Core.Path.{_≡_};
 ghost use mathlib.Core.List.{[]};
 ghost use Prim.Native.Nat.{_+_, _<_, _≤_, _^_};
+ghost use Rattle.folder.specs.Fields.{fieldLimit};
 ghost use Rattle.folder.specs.Scan.{firstBad};
 ghost use Rattle.folder.specs.Table.{outcome};
 ghost use Rattle.model.specs.Layout.{select, variableCount, recordSize, recordCount};
@@ -10,14 +11,14 @@ ghost use Rattle.model.specs.Rules.{bytesFit, recordsFit};
 ghost use Rattle.model.specs.Table.{folderRows};
 ghost use Rattle.model.specs.View.{isAccepted, recordThere, viewStart, viewPart};
 use expressions::MOST_EXPRESSIONS;
+use expressions::MOST_VARIABLES;
 use folder::Outcome;
 
-// Document 01's limits: bytes of the folder, records of the bodies, branches of a command, and a variable's bounds.
+// Document 01's limits: bytes of the folder, records of the bodies (variables and expressions: in the crate
+// `expressions`), branches of a command, and a variable's bounds.
 const LEAST_BYTES: usize = 40;
 
 const MOST_BYTES: usize = 40000;
-
-pub const MOST_VARIABLES: usize = 16;
 
 pub const MOST_COMMANDS: usize = 64;
 
@@ -111,7 +112,7 @@ fn first_bad_records(m: &[u8]) -> usize
 
 // The first branch record of command n, by the command body k.
 pub fn first_record(k: &[u8], n: usize) -> usize
-    requires { ⌜ n ≤ 65536 ⌝ }
+    requires { ⌜ n ≤ fieldLimit ⌝ }
     ensures { λ r. ⌜ r ≡ firstRecord (modelIn [] [] [] (now (k .entry)) []) n ⌝ }
 {
     let mut sum = 0;

@@ -9,13 +9,14 @@ use mathlib.Core.List.{List}
 use lib.ListN.{length, getD, replicate, getD-replicate, length-replicate, List·getD-eq-default}
 use borrow.Author.Tests.{ne-eqb}
 use Rattle.folder.specs.Table.{firstBroken}
-use Rattle.folder.specs.Fields.{u16, u32}
+use Rattle.folder.specs.Fields.{fieldLimit, u16, u32}
 use Rattle.folder.specs.Contents.{body, countOf, field4}
 use Rattle.model.specs.Limits.{mostVariables}
 use Rattle.model.specs.Layout.{variableCount}
 use Rattle.model.specs.Model.{modelOf}
 use Rattle.model.specs.Valid.{Valid}
 use Rattle.model.proofs.Limits.{limits}
+use Rattle.graph.specs.Limits.{mostNodes}
 use Rattle.graph.specs.Simulation.{nodeSize, nodeField, nodeCount, simulationOf}
 use Rattle.graph.specs.Rules.{A2, B1, B2}
 use Rattle.graph.specs.Valid.{RowsRight}
@@ -46,7 +47,7 @@ nothing-asked m g n e a b = rw (ne-eqb (nodeField (modelOf m) g n 0) 1 (λ q. a 
 pub no-edges : {m g : List ℕ} {n kind at : ℕ} → NodeOf m g n → kind ≡ nodeField (modelOf m) g n 0 → (kind ≡ 1 → ⊥) → at ≡ startsAt (modelOf m) g n → at ≡ startsAt (modelOf m) g (n + 1)
 no-edges {m} {g} {n} node k h e = place-skip (modelOf m) g n (node .rows .content .nodes n (node .there) .edges (λ q. h (k ∙ q))) e
 
-pub few-enough : {m g : List ℕ} {n : ℕ} → NodeOf m g n → (variableCount m ≤ mostVariables) × (n ≤ 65536)
+pub few-enough : {m g : List ℕ} {n : ℕ} → NodeOf m g n → (variableCount m ≤ mostVariables) × (n ≤ fieldLimit)
 few-enough node = (limits (node .model .folder) .variables, omega (arith, node .there, node .rows .folder .few))
 
 module _ {m g values weights firsts : List ℕ} (r : RulesReady m g values weights firsts) where
@@ -105,11 +106,11 @@ module _ (m g : List ℕ) (rows : RowsRight (modelOf m) g) where
 
 -- The tables as they are filled.
 pub ready-of : {m g values weights firsts : List ℕ} → Valid m → (rows : RowsRight (modelOf m) g) → Tables (modelOf m) weights firsts
-    → values ≡ fill (nodeCount (modelOf m) g) (simulationOf (modelOf m) g .value) (replicate 4096 0) → RulesReady m g values weights firsts
+    → values ≡ fill (nodeCount (modelOf m) g) (simulationOf (modelOf m) g .value) (replicate mostNodes 0) → RulesReady m g values weights firsts
 ready-of {m} {g} {values} valid rows tables e = record {
   model = valid;
   rows = rows;
   tables = tables;
-  long = omega (arith, ap length e, length-fill (nodeCount (modelOf m) g) (simulationOf (modelOf m) g .value) (replicate 4096 0) (omega (arith, rows .folder .few, length-replicate {A = ℕ} 4096 0)), length-replicate {A = ℕ} 4096 0, rows .folder .few);
-  valued = values-there m g rows 4096 e;
+  long = omega (arith, ap length e, length-fill (nodeCount (modelOf m) g) (simulationOf (modelOf m) g .value) (replicate mostNodes 0) (omega (arith, rows .folder .few, length-replicate {A = ℕ} mostNodes 0)), length-replicate {A = ℕ} mostNodes 0, rows .folder .few);
+  valued = values-there m g rows mostNodes e;
 }

@@ -7,6 +7,7 @@ use mathlib.Core.List.{List}
 use lib.ListN.{length, getD}
 use lib.Dec.{eqb}
 use Rattle.mdp.specs.Graph.{start, again, shared, up, figure}
+use Rattle.folder.specs.Fields.{fieldLimit}
 use Rattle.folder.specs.Pick.{pick}
 use Rattle.folder.specs.Tab.{fill}
 use Rattle.folder.specs.Scan.{all}
@@ -43,7 +44,7 @@ module _ (m g : List ℕ) where
   pub record Shaped (size nodes : ℕ) : Type 0 where
     pub size-is : size ≡ nodeSize (variableCount m)
     pub nodes-are : nodes ≡ nodesOf
-    pub small : size ≤ 65536
+    pub small : size ≤ fieldLimit
     pub few : nodes ≤ mostNodes
 
   abbrev pub ownStartRow : List ℕ → List ℕ

@@ -6,6 +6,7 @@ ghost use mathlib.Core.Path.{_≡_};
 ghost use Prim.Native.Nat.{_<_, _≤_};
 ghost use lib.ListN.{length};
 ghost use lib.Dec.{eqb};
+ghost use Rattle.folder.specs.Fields.{fieldLimit};
 ghost use Rattle.folder.specs.Pick.{pick};
 ghost use Rattle.folder.specs.Scan.{firstBad};
 ghost use Rattle.folder.specs.declared.Outcome.the-variants.{Accepted};
@@ -18,7 +19,7 @@ ghost use Rattle.rounds.specs.Rounds.{nodesOf, Shaped, ownStartRow, ownN
 
 // D.
 fn total_of(m: &[u8]) -> usize
-    ensures { λ r. ⌜ (r ≡ modelOf (now (m .entry)) .total) × (r < 65536) ⌝ }
+    ensures { λ r. ⌜ (r ≡ modelOf (now (m .entry)) .total) × (r < fieldLimit) ⌝ }
 {
     folder::field(4, folder::body(m, 0), 0, 0)
 }

@@ -20,6 +20,7 @@ use Rattle.folder.proofs.ScanLaws.{found}
 use Rattle.folder.proofs.TableLaws.{accepted-then, refused-then}
 use Rattle.folder.proofs.TabLaws.{getD-tab, tab-same}
 use Rattle.whole.proofs.Order.{to-⊑, ⊑-trans, within}
+use Rattle.expressions.specs.Limits.{allTracked}
 use Rattle.expressions.specs.Entries.{entriesOf}
 use Rattle.expressions.specs.Meaning.{State, valueOf, truthIn}
 use Rattle.expressions.specs.Reading.{lookIn}
@@ -27,6 +28,7 @@ use Rattle.expressions.specs.Right.{IsTruth}
 use Rattle.evaluate.specs.Formed.{Grounded}
 use Rattle.evaluate.specs.Settled.{flagAt, contentAt}
 use Rattle.evaluate.proofs.Rows.{filled, state-row}
+use Rattle.model.specs.Limits.{mostRecords, mostBound}
 use Rattle.model.specs.Layout.{variableCount, branchSize}
 use Rattle.model.specs.Model.{Model, modelOf, bound, firstRecord, modelIn}
 use Rattle.model.specs.Chances.{InRange, next}
@@ -111,16 +113,16 @@ module _ {m : List ℕ} (valid : Valid m) {s : State} (h : InRange (modelOf m) s
   record-in : firstRecord (modelOf m) c + b < countOf (branchSize (variableCount m)) (body m 4)
   record-in = record-there (modelOf m) (valid .model) c b (t .command) (t .branch)
 
-  pub record-small : f + b ≤ 1024
+  pub record-small : f + b ≤ mostRecords
   record-small = omega (arith, record-in, t .first, limits (valid .folder) .records)
 
-  given-small : (v : ℕ) → v < variableCount m → mag (given m s (firstRecord (modelOf m) c + b) v) ≤ 30000
+  given-small : (v : ℕ) → v < variableCount m → mag (given m s (firstRecord (modelOf m) c + b) v) ≤ mag mostBound
   unfolding next
   given-small v p =
       let in-it = next-in-range (modelOf m) (valid .model) c b (t .command) (t .branch) s h in
       let is = getD-tab (pos 0) (variableCount m) (given m s (firstRecord (modelOf m) c + b)) v p in
       let right = valid .model .variables v p in
-      within 29999 (given m s (firstRecord (modelOf m) c + b) v)
+      within _ (given m s (firstRecord (modelOf m) c + b) v)
       (⊑-trans (to-⊑ (right .least)) (to-⊑ (rw is at (in-it .low v p))))
       (⊑-trans (to-⊑ (rw is at (in-it .high v p))) (to-⊑ (right .most)))
 
@@ -143,10 +145,10 @@ module _ {m : List ℕ} (valid : Valid m) {s : State} (h : InRange (modelOf m) s
 
 -- ---- from the row that `settle` fills
 module _ {x b : List ℕ} {size r : ℕ} {s : State} (h : Stepping x b size r s) (known₀ : List ℕ) (values₀ : List ℤ) {known : List ℕ} {values : List ℤ}
-    (e : known ≡ fill (countOf 8 x) (flagAt (entriesOf x) (lookIn 65535 s)) known₀) (f : values ≡ fill (countOf 8 x) (contentAt (entriesOf x) (lookIn 65535 s)) values₀) where
+    (e : known ≡ fill (countOf 8 x) (flagAt (entriesOf x) (lookIn allTracked s)) known₀) (f : values ≡ fill (countOf 8 x) (contentAt (entriesOf x) (lookIn allTracked s)) values₀) where
   value-is : (v : ℕ) → v < length s → valueIn values b size r v ≡ assignedIn x b size r s v
   value-is v l =
-      state-row (entriesOf x) s (h .grounded) known values (filled (entriesOf x) (lookIn 65535 s) (countOf 8 x) known₀ values₀ e f) .numbers _ (h .number v l)
+      state-row (entriesOf x) s (h .grounded) known values (filled (entriesOf x) (lookIn allTracked s) (countOf 8 x) known₀ values₀ e f) .numbers _ (h .number v l)
 
   pub assigning : Assigning values b size r (length s)
   assigning = record {

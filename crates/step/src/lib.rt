@@ -1,16 +1,19 @@
 // The step of a state by command and branch: rows 29 to 33 of document 01's table, and the result row.
+use expressions::ALL_TRACKED;
 use expressions::MOST_EXPRESSIONS;
+use expressions::MOST_VARIABLES;
 use folder::Outcome;
-use model::MOST_VARIABLES;
 ghost use mathlib.Core.Path.{_≡_};
 ghost use mathlib.Core.List.{_++_};
 ghost use Prim.Native.Nat.{_≤_};
 ghost use lib.ListN.{length, drop};
 ghost use lib.Signed.{mag};
+ghost use Rattle.folder.specs.Fields.{fieldLimit};
 ghost use Rattle.folder.specs.Tab.{fill};
 ghost use Rattle.folder.specs.Table.{outcome};
 ghost use Rattle.folder.specs.Scan.{firstBad};
 ghost use Rattle.expressions.specs.Meaning.{valueOf};
+ghost use Rattle.model.specs.Limits.{mostVariables, mostBound};
 ghost use Rattle.model.specs.Model.{modelOf};
 ghost use Rattle.model.specs.Chances.{InRange};
 ghost use Rattle.model.specs.Valid.{Valid};
@@ -26,7 +29,7 @@ fn value_of(state: &[i16], v: usize) -> i64
 
 // The value of variable v is in its range, by the variable body y.
 fn value_fits(y: &[u8], state: &[i16], v: usize) -> bool
-    requires { ⌜ v ≤ 65536 ⌝ }
+    requires { ⌜ v ≤ fieldLimit ⌝ }
     ensures { λ r. ⌜ r ≡ fitsIn (now (y .entry)) (now (state .entry)) v ⌝ }
 {
     let low = folder::signed_field(6, y, v, 0);
@@ -37,7 +40,7 @@ fn value_fits(y: &[u8], state: &[i16], v: usize) -> bool
 
 // Row 30: the first of n variables whose value is outside its range, or n.
 fn first_bad_value(y: &[u8], state: &[i16], n: usize) -> usize
-    requires { ⌜ n ≤ 65536 ⌝ }
+    requires { ⌜ n ≤ fieldLimit ⌝ }
     ensures { λ r. ⌜ r ≡ firstBad (fitsIn (now (y .entry)) (now (state .entry))) n ⌝ }
 {
     let mut i = 0;
@@ -66,8 +69,8 @@ fn load(state: &[i16], row: &mut [i64])
 
 // What record r of the branch body b gives variable v, where the row has what each number is.
 fn assigned_in(values: &[i64], b: &[u8], size: usize, r: usize, v: usize) -> i16
-    requires { ⌜ (size ≤ 65536) × (r ≤ 65536) × (v ≤ 16) ⌝ }
-    requires { ⌜ mag (valueIn (now values) (now b) size r v) ≤ 30000 ⌝ }
+    requires { ⌜ (size ≤ fieldLimit) × (r ≤ fieldLimit) × (v ≤ mostVariables) ⌝ }
+    requires { ⌜ mag (valueIn (now values) (now b) size r v) ≤ mag mostBound ⌝ }
     ensures { λ z. ⌜ z ≡ valueIn (now (values .entry)) (now (b .entry)) size r v ⌝ }
 {
     evaluate::value_at(values, folder::field(size, b, r, 1 + v)) as i16
@@ -95,7 +98,7 @@ fn put_next(x: &[u8], b: &[u8], size: usize, r: usize, s: &[i64], result: &mut [
 {
     let mut known = [0u8; MOST_EXPRESSIONS];
     let mut values = [0i64; MOST_EXPRESSIONS];
-    evaluate::settle(x, 65535, s, &mut known, &mut values);
+    evaluate::settle(x, ALL_TRACKED, s, &mut known, &mut values);
     put_values(&values, b, size, r, s.len(), result);
 }
 

@@ -7,6 +7,7 @@ use mathlib.Core.List.{List}
 use borrow.Author.Count.{below-more}
 use lib.ListN.{length}
 use Rattle.mdp.proofs.SumLaws.{sum-next}
+use Rattle.folder.specs.Fields.{fieldLimit}
 use Rattle.folder.specs.Contents.{body, field, countOf}
 use Rattle.model.specs.Layout.{variableCount, branchSize}
 use Rattle.model.specs.Model.{modelOf}
@@ -17,7 +18,7 @@ use Rattle.folder.proofs.FillLaws.{getD-filled, length-fill}
 pub light-none : (f : ℕ → ℕ) → Light 0 f
 light-none f = record { fits = λ r l. absurd (not-suc-le-zero l) }
 
-pub light-more : (f : ℕ → ℕ) {n v : ℕ} → Light n f → v ≡ f n → v < 65536 → Light (n + 1) f
+pub light-more : (f : ℕ → ℕ) {n v : ℕ} → Light n f → v ≡ f n → v < fieldLimit → Light (n + 1) f
 light-more f h e l = record { fits = below-more _ _ (h .fits) (rw e at l) }
 
 pub light-over : (f : ℕ → ℕ) {n k : ℕ} → Light n f → n ≡ k → Light k f

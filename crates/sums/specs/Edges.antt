@@ -1,13 +1,18 @@
 -- An edge's weighted sum from a table of weights, and the walk over a node's edges, over the bytes.
 -- Assumes nothing.
-use Prim.Native.Nat.{ℕ, _+_, _*_, _≤_, _<_}
+use Prim.Native.Nat.{ℕ, _+_, _-_, _*_, _≤_, _<_}
 use mathlib.Core.List.{List, []}
 use lib.ListN.{length, getD}
 use Rattle.mdp.specs.Sums.{sum, greatest}
+use Rattle.folder.specs.Fields.{fieldLimit, field4Limit}
 use Rattle.folder.specs.Contents.{field}
 use Rattle.model.specs.Limits.{mostBranches}
 use Rattle.model.specs.Model.{modelIn}
 use Rattle.graph.specs.Simulation.{edgeBytes, commandIn, successorIn, edgeAfter}
+
+-- What a weight times an element is at most: the one has 2 bytes, the other 4.
+abbrev pub mostProduct : ℕ
+mostProduct = (fieldLimit - 1) * (field4Limit - 1)
 
 -- The sum of weight × the successor's element of `row`, over the branches of the edge at position k of the edges `eb`;
 -- its `count` weights stand from `first` on.
@@ -19,7 +24,7 @@ pub record EdgeFits (weights : List ℕ) (nodes : ℕ) (eb : List ℕ) (first co
   pub few : count ≤ mostBranches
   pub records : first + count ≤ length weights
   pub whole : k + edgeBytes count ≤ length eb
-  pub light : (b : ℕ) → b < count → getD weights (first + b) 0 < 65536
+  pub light : (b : ℕ) → b < count → getD weights (first + b) 0 < fieldLimit
   pub known : (b : ℕ) → b < count → successorIn eb k b < nodes
 
 -- The branch count of command c, in the body `cs` of the commands.

@@ -6,6 +6,7 @@ use mathlib.Core.List.{List}
 use lib.ListN.{length, getD}
 use lib.Dec.{eqb}
 use Rattle.mdp.specs.Sums.{sum, roundedUp}
+use Rattle.folder.specs.Fields.{fieldLimit}
 use Rattle.folder.specs.Pick.{pick}
 use Rattle.folder.specs.Contents.{field}
 use Rattle.model.specs.Model.{Model, firstRecord}
@@ -15,7 +16,7 @@ use Rattle.sums.specs.Edges.{branchesIn}
 -- The tables: each branch record's weight, and each command's first branch record.
 pub record Tables (M : Model) (weights firsts : List ℕ) : Type 0 where
   pub weighed : (r : ℕ) → r < M .records → getD weights r 0 ≡ M .weight r
-  pub light : (r : ℕ) → r < M .records → getD weights r 0 < 65536
+  pub light : (r : ℕ) → r < M .records → getD weights r 0 < fieldLimit
   pub placed : (c : ℕ) → c < M .commands → getD firsts c 0 ≡ firstRecord M c
   pub weights-long : M .records ≤ length weights
   pub firsts-long : M .commands ≤ length firsts
@@ -29,7 +30,7 @@ firstIn cs c = sum c (λ i _. branchesIn cs i)
 
 -- The first n values of f fit 16 bits.
 pub record Light (n : ℕ) (f : ℕ → ℕ) : Type 0 where
-  pub fits : (r : ℕ) → r < n → f r < 65536
+  pub fits : (r : ℕ) → r < n → f r < fieldLimit
 
 -- A row that holds a round of so many nodes: no figure is more than certainty.
 pub record Round (nodes : ℕ) (row : List ℕ) : Type 0 where

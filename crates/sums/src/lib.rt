@@ -5,21 +5,22 @@ ghost use mathlib.Core.Path.{_≡_};
 ghost use Prim.Native.Nat.{_+_, _*_, _<_, _≤_, _^_, max};
 ghost use lib.ListN.{length};
 ghost use Rattle.mdp.specs.Sums.{roundedUp};
+ghost use Rattle.folder.specs.Fields.{fieldLimit};
 ghost use Rattle.folder.specs.Contents.{field, countOf};
 ghost use Rattle.folder.specs.Tab.{fill};
 ghost use Rattle.model.specs.Limits.{mostRecords, mostCommands};
 ghost use Rattle.model.specs.Model.{modelOf};
 ghost use Rattle.model.specs.Valid.{Valid};
 ghost use Rattle.graph.specs.Limits.{units};
-ghost use Rattle.sums.specs.Edges.{sumAt, EdgeFits, after, EdgesReady, bestOf};
+ghost use Rattle.sums.specs.Edges.{mostProduct, sumAt, EdgeFits, after, EdgesReady, bestOf};
 ghost use Rattle.sums.specs.Tables.{Tables, weightIn, firstIn, Light, figureBy};
 
 // Certainty.
-const UNITS: u32 = 1000000000;
+const UNITS: u32 = graph::UNITS as u32;
 
 fn times(weight: usize, x: u32) -> usize
-    requires { ⌜ weight < 65536 ⌝ }
-    ensures { λ r. ⌜ (r ≡ weight * x) × (r ≤ 281470681677825) ⌝ }
+    requires { ⌜ weight < fieldLimit ⌝ }
+    ensures { λ r. ⌜ (r ≡ weight * x) × (r ≤ mostProduct) ⌝ }
 {
     weight * (x as usize)
 }
@@ -55,7 +56,7 @@ fn larger(a: usize, b: usize) -> usize
 // The branches of command c, which the body of commands has whole.
 fn branches_of(cs: &[u8], c: usize) -> usize
     requires { ⌜ 4 * c + 4 ≤ length (now cs) ⌝ }
-    ensures { λ r. ⌜ (r ≡ field 4 (now (cs .entry)) c 1) × (r < 65536) ⌝ }
+    ensures { λ r. ⌜ (r ≡ field 4 (now (cs .entry)) c 1) × (r < fieldLimit) ⌝ }
 {
     folder::u16_in(cs, 4 * c + 2)
 }
@@ -107,7 +108,7 @@ fn up(x: usize, d: usize) -> usize
 
 // The figure of a node that is not covered, from the greatest sum over its edges; a covered one is 0 for now.
 pub fn figure_by(kind: usize, best: usize, d: usize) -> u32
-    requires { ⌜ (0 < d) × (d < 65536) × (best ≤ d * units) ⌝ }
+    requires { ⌜ (0 < d) × (d < fieldLimit) × (best ≤ d * units) ⌝ }
     ensures { λ r. ⌜ r ≡ figureBy kind best d ⌝ }
 {
     if kind == EXPANDED {
@@ -121,7 +122,7 @@ pub fn figure_by(kind: usize, best: usize, d: usize) -> u32
 
 // The table of weights.
 fn fill_weights(size: usize, bs: &[u8], weights: &mut [usize])
-    requires { ⌜ (0 < size) × (size ≤ 65536) × (countOf size (now bs) ≤ 65536) × (countOf size (now bs) ≤ length (now weights)) ⌝ }
+    requires { ⌜ (0 < size) × (size ≤ fieldLimit) × (countOf size (now bs) ≤ fieldLimit) × (countOf size (now bs) ≤ length (now weights)) ⌝ }
     ensures { λ _. ⌜ now (weights .exit) ≡ fill (countOf size (now (bs .entry))) (weightIn size (now (bs .entry))) (now (weights .entry)) ⌝ }
     ensures { λ _. ⌜ Light (countOf size (now (bs .entry))) (weightIn size (now (bs .entry))) ⌝ }
 {
@@ -135,7 +136,7 @@ fn fill_weights(size: usize, bs: &[u8], weights: &mut [usize])
 
 // The table of each command's first branch record.
 fn fill_firsts(cs: &[u8], firsts: &mut [usize])
-    requires { ⌜ (countOf 4 (now cs) ≤ 65536) × (countOf 4 (now cs) ≤ length (now firsts)) ⌝ }
+    requires { ⌜ (countOf 4 (now cs) ≤ fieldLimit) × (countOf 4 (now cs) ≤ length (now firsts)) ⌝ }
     ensures { λ _. ⌜ now (firsts .exit) ≡ fill (countOf 4 (now (cs .entry))) (firstIn (now (cs .entry))) (now (firsts .entry)) ⌝ }
 {
     let commands = folder::count_of(4, cs);

@@ -2,12 +2,13 @@ use mathlib.Core.Path.{refl}
 use native.Mathlib.Nat.{mul-le-mul}
 use native.Mathlib.Omega.{arith}
 use borrow.Author.Needs.{needs}
+use Rattle.folder.specs.Fields.{fieldLimit, field4Limit}
 use Rattle.labels.proofs.limit_of.Statement.{statement}
 use Rattle.labels.proofs.limit_of.Tie as tie
 
 mul-result : tie.Need-mul-result
 mul-result c =
-    omega (arith, mul-le-mul {n₁ = c .field .result} {m₁ = c .before .before .before .args .value} {n₂ = 65535} {m₂ = 4294967295} (omega arith) (omega arith))
+    omega (arith, mul-le-mul {n₁ = c .field .result} {m₁ = c .before .before .before .args .value} {n₂ = fieldLimit} {m₂ = field4Limit} (omega arith) (omega arith))
 
 returns : tie.Need-returns
 returns c = rw (c .field .ensures .0, c .before .body .ensures) refl

@@ -7,6 +7,7 @@ use borrow.Author.Tests.{ltb-true}
 use lib.Dec.{ltb}
 use lib.ListN.{drop}
 use denote.Ref.{now}
+use Rattle.folder.specs.Fields.{fieldLimit}
 use Rattle.folder.specs.Contents.{body, countOf, field}
 use Rattle.folder.specs.Scan.{firstBad}
 use Rattle.folder.specs.Table.{Row}
@@ -46,7 +47,7 @@ past1 c = row-holds (no-row _) refl (row31 (c .before)) (c .if1 .left)
 there : (c : tie.Else1) → from1 c .args .command < countOf 4 (body (now (from1 c .args .m)) 3)
 there c = ltb-true _ _ (only-true (row31 (c .before)) (c .if1 .left))
 
-small : (c : tie.Else1) → from1 c .args .command ≤ 65536
+small : (c : tie.Else1) → from1 c .args .command ≤ fieldLimit
 small c = omega (arith, there c, limits (from1 c .pre .0 .folder))
 
 -- Row 32.

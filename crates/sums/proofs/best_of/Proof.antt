@@ -1,4 +1,4 @@
-use Prim.Native.Nat.{_≤_, _<_, _-_}
+use Prim.Native.Nat.{_≤_, _<_, _-_, _^_}
 use mathlib.Core.Path.{_≡_, _∙_}
 use Rattle.graph.specs.Simulation.{edgeAfter}
 use Rattle.sums.specs.Edges.{after, bestOf}
@@ -9,7 +9,7 @@ use Rattle.sums.proofs.best_of.Statement.{statement}
 use Rattle.sums.proofs.best_of.Tie as tie
 
 abbrev Inv-loop : tie.InvT-loop
-Inv-loop cs eb weights firsts row at count best₀ k₀ e₀ best k e = (e ≤ count) × (k ≡ after cs eb at e) × (best ≡ bestOf cs eb weights firsts row at e) × (best < 4503599627370496)
+Inv-loop cs eb weights firsts row at count best₀ k₀ e₀ best k e = (e ≤ count) × (k ≡ after cs eb at e) × (best ≡ bestOf cs eb weights firsts row at e) × (best < 2 ^ 52)
 
 abbrev μ-loop : tie.MeasureT-loop
 μ-loop cs eb weights firsts row at count best₀ k₀ e₀ best k e = count - e

@@ -3,12 +3,12 @@ use mathlib.Core.Path.{_≡_}
 use native.Mathlib.Omega.{arith}
 use borrow.Author.Needs.{needs}
 use Rattle.sums.proofs.EdgeLaws.{branch-more}
-use Rattle.sums.specs.Edges.{sumAt}
+use Rattle.sums.specs.Edges.{mostProduct, sumAt}
 use Rattle.sums.proofs.edge_sum.Statement.{statement}
 use Rattle.sums.proofs.edge_sum.Tie as tie
 
 abbrev Inv-loop : tie.InvT-loop
-Inv-loop weights row eb first count at acc₀ b₀ acc b = (b ≤ count) × (acc ≡ sumAt weights row eb first b at) × (acc ≤ b * 281470681677825)
+Inv-loop weights row eb first count at acc₀ b₀ acc b = (b ≤ count) × (acc ≡ sumAt weights row eb first b at) × (acc ≤ b * mostProduct)
 
 abbrev μ-loop : tie.MeasureT-loop
 μ-loop weights row eb first count at acc₀ b₀ acc b = count - b

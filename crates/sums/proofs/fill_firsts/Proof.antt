@@ -2,6 +2,7 @@ use Prim.Native.Nat.{_-_, _*_, _≤_}
 use mathlib.Core.Path.{_≡_, refl}
 use native.Mathlib.Omega.{arith}
 use borrow.Author.Needs.{needs}
+use Rattle.folder.specs.Fields.{fieldLimit}
 use Rattle.folder.proofs.FillLaws.{Filled, fill-start, fill-next, fill-over}
 use Rattle.sums.specs.Tables.{firstIn}
 use Rattle.sums.proofs.TableLaws.{first-more}
@@ -9,7 +10,7 @@ use Rattle.sums.proofs.fill_firsts.Statement.{statement}
 use Rattle.sums.proofs.fill_firsts.Tie as tie
 
 abbrev Inv-loop : tie.InvT-loop
-Inv-loop cs firsts₀ commands next₀ c₀ firsts next c = Filled (firstIn cs) commands firsts₀ firsts c × (next ≡ firstIn cs c) × (next ≤ c * 65536)
+Inv-loop cs firsts₀ commands next₀ c₀ firsts next c = Filled (firstIn cs) commands firsts₀ firsts c × (next ≡ firstIn cs c) × (next ≤ c * fieldLimit)
 
 abbrev μ-loop : tie.MeasureT-loop
 μ-loop cs firsts₀ commands next₀ c₀ firsts next c = commands - c
