@@ -9,6 +9,7 @@ use lib.ListN.{length, take, length-append, length-drop}
 use lib.Seq.{length-take-le}
 use Rattle.text.specs.Text.{ascii, written, Holds}
 use Rattle.text.proofs.TextLaws.{holds-none, holds-more}
+use Rattle.report.specs.Room.{textRoom}
 use Rattle.report.specs.Report.{noFile, tooLong}
 use Rattle.check_graph.specs.declared.Reading.{Reading}
 use Rattle.check_graph.specs.declared.Reading.the-variants.{Failed, Bytes}
@@ -23,13 +24,13 @@ module _ {out out′ : List ℕ} {k : ℕ} (r : Reading) (buffer : List ℕ) (te
   line : (l : List ℕ) → length l ≤ length out → k ≡ 0 + length l → out′ ≡ written out 0 l → Holds out l out′ k
   line l room e w = holds-more (holds-none out) l (omega arith) e w
 
-  pub failed-line : r ≡ Failed → 512 ≤ length out → k ≡ 0 + length noFile → out′ ≡ written out 0 noFile
+  pub failed-line : r ≡ Failed → textRoom ≤ length out → k ≡ 0 + length noFile → out′ ≡ written out 0 noFile
       → Holds out (fileText r buffer text) out′ k
   unfolding ascii
   failed-line e room p w = rw e (line noFile (omega arith) p w)
 
   module _ (n : ℕ) (e : r ≡ Bytes n) where
-    pub long-line : mostRead < n → 512 ≤ length out → k ≡ 0 + length tooLong → out′ ≡ written out 0 tooLong
+    pub long-line : mostRead < n → textRoom ≤ length out → k ≡ 0 + length tooLong → out′ ≡ written out 0 tooLong
         → Holds out (fileText r buffer text) out′ k
     unfolding ascii
     long-line l room p w = rw (e, lt-leb n mostRead l) (line tooLong (omega arith) p w)

@@ -6,10 +6,12 @@ ghost use Rattle.text.specs.Text.{Holds};
 ghost use Rattle.check_graph.specs.Printed.{Within, fileText, printed};
 ghost use Rattle.report.specs.Report.{reportText};
 use libc::STDOUT_FILENO;
+use report::TEXT_ROOM;
 
+// Bytes that are taken of a file.
 const MOST: usize = 65536;
 // One byte more, so that a longer file shows.
-const ROOM: usize = 65537;
+const ROOM: usize = MOST + 1;
 
 // What reading a file gave: nothing, or so many bytes at the start of the buffer.
 enum Reading {
@@ -62,7 +64,7 @@ fn read_file(name: &[u8], buf: &mut [u8; ROOM]) -> Reading {
 }
 
 // The text for a model of these bytes, at the start of `out`; where it ends.
-fn graph_text(model: &[u8], g: Reading, graph: &[u8; ROOM], out: &mut [u8; 512]) -> usize
+fn graph_text(model: &[u8], g: Reading, graph: &[u8; ROOM], out: &mut [u8; TEXT_ROOM]) -> usize
     ensures { λ r. ⌜ Holds (now (out .entry)) (fileText g (now (graph .entry)) (reportText (now (model .entry)))) (now (out .exit)) r ⌝ }
 {
     let bytes: &[u8] = graph;
@@ -84,7 +86,7 @@ fn text_of(
     model: &[u8; ROOM],
     g: Reading,
     graph: &[u8; ROOM],
-    out: &mut [u8; 512],
+    out: &mut [u8; TEXT_ROOM],
 ) -> usize
     ensures { λ r. ⌜ Holds (now (out .entry)) (printed m (now (model .entry)) g (now (graph .entry))) (now (out .exit)) r ⌝ }
 {
@@ -104,7 +106,7 @@ fn text_of(
 fn main() {
     let mut model = [0u8; ROOM];
     let mut graph = [0u8; ROOM];
-    let mut out = [0u8; 512];
+    let mut out = [0u8; TEXT_ROOM];
     let m = read_file(b"model.fold", &mut model);
     let g = read_file(b"graph.fold", &mut graph);
     let n = text_of(m, &model, g, &graph, &mut out);

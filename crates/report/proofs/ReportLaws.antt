@@ -6,13 +6,14 @@ use mathlib.Core.Path.{_≡_, refl, sym, ap, _∙_, subst}
 use mathlib.Core.List.{List, _++_, append-nil}
 use borrow.Author.Tests.{eq-eqb, ne-eqb}
 use lib.ListN.{length, getD}
+use Rattle.folder.specs.Fields.{fieldLimit}
 use Rattle.folder.specs.Table.{outcome}
 use Rattle.folder.specs.declared.Outcome.{Outcome}
 use Rattle.folder.specs.declared.Outcome.the-variants.{Accepted, Refused}
 use Rattle.text.specs.Text.{written, Holds}
 use Rattle.text.proofs.TextLaws.{holds-more}
 use Rattle.model.specs.Model.{Model, modelOf}
-use Rattle.graph.specs.Limits.{mostSteps}
+use Rattle.graph.specs.Limits.{mostSteps, mostNodes}
 use Rattle.graph.specs.Simulation.{Simulation, simulationOf}
 use Rattle.graph.specs.Table.{summary, answerOf, graphAnswer, graphOutcome}
 use Rattle.graph.specs.Figures.{figureRows, firstOf, secondOf}
@@ -24,6 +25,7 @@ use Rattle.graph.proofs.CountLaws.{kind-few, none-of-kind}
 use Rattle.graph.proofs.Decided.{accepted-valid, figure-valid}
 use Rattle.rounds.proofs.FigureLaws.{begins}
 use Rattle.laguipy.proofs.CallLaws.{figure-goes-on}
+use Rattle.report.specs.Room.{textRoom}
 use Rattle.report.specs.Report.{countsLine, rootLine, figureLines, rootFigure, textOf, reportText}
 
 module _ (m g : List ℕ) where
@@ -36,7 +38,7 @@ module _ (m g : List ℕ) where
   module _ (A : Valid m g) where
     -- No count is more than the most nodes.
     pub counts-few : {s : Summary} → s ≡ summary G
-        → (s .expanded ≤ 65536) × (s .covered ≤ 65536) × (s .target ≤ 65536) × (s .waiting ≤ 65536)
+        → (s .expanded ≤ fieldLimit) × (s .covered ≤ fieldLimit) × (s .target ≤ fieldLimit) × (s .waiting ≤ fieldLimit)
     counts-few {s} e = (
       omega (arith, ap (λ (x : Summary). x .expanded) e, kind-few G 1, A .rows .folder .few),
       omega (arith, ap (λ (x : Summary). x .covered) e, kind-few G 2, A .rows .folder .few),
@@ -44,9 +46,9 @@ module _ (m g : List ℕ) where
       omega (arith, ap (λ (x : Summary). x .waiting) e, kind-few G 0, A .rows .folder .few),
     )
 
-    -- With no node waiting, rows of 4,096 elements take the figures, and the root's is the first element.
+    -- With no node waiting, rows of `mostNodes` elements take the figures, and the root's is the first element.
     module _ (z : summary G .waiting ≡ 0) (h : ℕ) (l : h ≤ mostSteps)
-        (first second : List ℕ) (p : 4096 ≤ length first) (q : 4096 ≤ length second) where
+        (first second : List ℕ) (p : mostNodes ≤ length first) (q : mostNodes ≤ length second) where
       figure-accepted : outcome (figureRows G h first second) ≡ Accepted
       figure-accepted =
           sym (figure-goes-on m g h first second (accepted-valid m g .1 A))
@@ -76,7 +78,7 @@ module _ (m g : List ℕ) where
 
   -- The lines of an accepted graph: two, and the figures' where no node waits.
   module _ (s : Summary) {out out₁ out₂ : List ℕ} {a b : ℕ}
-      (room : 512 ≤ length out) (h : Holds out (countsLine s) out₁ a) (l : a ≤ 160)
+      (room : textRoom ≤ length out) (h : Holds out (countsLine s) out₁ a) (l : a ≤ 160)
       (w : (b ≡ a + length (rootLine (s .root))) × (out₂ ≡ written out₁ a (rootLine (s .root))) × (b ≤ a + 26)) where
     lines : Holds out (countsLine s ++ rootLine (s .root)) out₂ b
     lines = holds-more h (rootLine (s .root)) (omega (arith, w .0, w .2)) (w .0) (w .1)

@@ -4,8 +4,9 @@ use graph::GraphAnswer;
 use graph::MOST_NODES;
 use graph::Summary;
 ghost use mathlib.Core.Path.{_≡_};
-ghost use Prim.Native.Nat.{_+_, _≤_};
+ghost use Prim.Native.Nat.{_+_, _/_, _≤_};
 ghost use lib.ListN.{length};
+ghost use Rattle.folder.specs.Fields.{fieldLimit};
 ghost use Rattle.text.specs.Text.{Holds, written};
 ghost use Rattle.model.specs.Model.{modelOf};
 ghost use Rattle.graph.specs.Limits.{mostSteps};
@@ -13,12 +14,16 @@ ghost use Rattle.graph.specs.Simulation.{simulationOf};
 ghost use Rattle.graph.specs.Table.{summary};
 ghost use Rattle.graph.specs.Valid.{Valid};
 ghost use Rattle.graph.specs.declared.GraphAnswer.the-variants.{Accepted};
+ghost use Rattle.report.specs.Room.{textRoom, lineRoom, latestLine};
 ghost use Rattle.report.specs.Report.{countsLine, rootLine, withinLine, figureLines, refusedLine};
 ghost use Rattle.report.specs.Report.{rootFigure, textOf, reportText};
 
+// Bytes for the whole text, which is never longer.
+pub const TEXT_ROOM: usize = 512;
+
 // A refusal's line.
 fn put_refusal(out: &mut [u8], f: Refusal) -> usize
-    requires { ⌜ 256 ≤ length (now out) ⌝ }
+    requires { ⌜ lineRoom ≤ length (now out) ⌝ }
     ensures { λ r. ⌜ Holds (now (out .entry)) (refusedLine f) (now (out .exit)) r ⌝ }
 {
     let a = text::put(out, 0, b"refused ");
@@ -30,7 +35,7 @@ fn put_refusal(out: &mut [u8], f: Refusal) -> usize
 
 // The counts' line.
 fn put_counts(out: &mut [u8], s: Summary) -> usize
-    requires { ⌜ (256 ≤ length (now out)) × (s .expanded ≤ 65536) × (s .covered ≤ 65536) × (s .target ≤ 65536) × (s .waiting ≤ 65536) ⌝ }
+    requires { ⌜ (lineRoom ≤ length (now out)) × (s .expanded ≤ fieldLimit) × (s .covered ≤ fieldLimit) × (s .target ≤ fieldLimit) × (s .waiting ≤ fieldLimit) ⌝ }
     ensures { λ r. ⌜ Holds (now (out .entry)) (countsLine s) (now (out .exit)) r × (r ≤ 160) ⌝ }
 {
     let all = s.expanded + s.covered + s.target + s.waiting;
@@ -44,7 +49,7 @@ fn put_counts(out: &mut [u8], s: Summary) -> usize
 
 // The root value's line, at `at`.
 fn put_root(out: &mut [u8], at: usize, root: usize) -> usize
-    requires { ⌜ (at + 26 ≤ length (now out)) × (at ≤ 4096) ⌝ }
+    requires { ⌜ (at + 26 ≤ length (now out)) × (at ≤ latestLine) ⌝ }
     ensures { λ r. ⌜ (r ≡ at + length (rootLine root)) × (now (out .exit) ≡ written (now (out .entry)) at (rootLine root)) × (r ≤ at + 26) ⌝ }
 {
     let k = text::put(out, at, b"root ");
@@ -53,7 +58,7 @@ fn put_root(out: &mut [u8], at: usize, root: usize) -> usize
 
 // The line of the root's figure f for h steps, at `at`.
 fn put_within(out: &mut [u8], at: usize, h: usize, f: usize) -> usize
-    requires { ⌜ (at + 49 ≤ length (now out)) × (at ≤ 4096) ⌝ }
+    requires { ⌜ (at + 49 ≤ length (now out)) × (at ≤ latestLine) ⌝ }
     ensures { λ r. ⌜ (r ≡ at + length (withinLine h f)) × (now (out .exit) ≡ written (now (out .entry)) at (withinLine h f)) × (r ≤ at + 49) ⌝ }
 {
     let k = text::put(out, at, b"within ");
@@ -63,7 +68,7 @@ fn put_within(out: &mut [u8], at: usize, h: usize, f: usize) -> usize
 
 // The four lines of the root's figures, at `at`.
 fn put_figures(out: &mut [u8], at: usize, f0: usize, f1: usize, f2: usize, f3: usize) -> usize
-    requires { ⌜ (at + 196 ≤ length (now out)) × (at ≤ 2048) ⌝ }
+    requires { ⌜ (at + 196 ≤ length (now out)) × (at ≤ latestLine / 2) ⌝ }
     ensures { λ r. ⌜ (r ≡ at + length (figureLines f0 f1 f2 f3)) × (now (out .exit) ≡ written (now (out .entry)) at (figureLines f0 f1 f2 f3)) × (r ≤ at + 196) ⌝ }
 {
     let a = put_within(out, at, 0, f0);
@@ -97,7 +102,7 @@ fn wide(x: u32) -> usize
 // The lines of an accepted graph.
 fn put_accepted(model: &[u8], graph: &[u8], s: Summary, out: &mut [u8]) -> usize
     requires { ⌜ Valid (now model) (now graph) ⌝ }
-    requires { ⌜ (s ≡ summary (simulationOf (modelOf (now model)) (now graph))) × (512 ≤ length (now out)) ⌝ }
+    requires { ⌜ (s ≡ summary (simulationOf (modelOf (now model)) (now graph))) × (textRoom ≤ length (now out)) ⌝ }
     ensures { λ r. ⌜ Holds (now (out .entry)) (textOf (Accepted s) (rootFigure (now (model .entry)) (now (graph .entry)))) (now (out .exit)) r ⌝ }
 {
     let a = put_counts(out, s);
@@ -113,7 +118,7 @@ fn put_accepted(model: &[u8], graph: &[u8], s: Summary, out: &mut [u8]) -> usize
 }
 
 // What is printed of two files' bytes, at the start of `out`; where it ends. The graph is checked once.
-pub fn report(model: &[u8], graph: &[u8], out: &mut [u8; 512]) -> usize
+pub fn report(model: &[u8], graph: &[u8], out: &mut [u8; TEXT_ROOM]) -> usize
     ensures { λ r. ⌜ Holds (now (out .entry)) (reportText (now (model .entry)) (now (graph .entry))) (now (out .exit)) r ⌝ }
 {
     let a = laguipy::graph_check(model, graph);

@@ -22,6 +22,10 @@ decimalWithin (suc k) n = pick (ltb n 10) ((48 + n) ∷ []) (decimalWithin k (n 
 abbrev pub decimal : ℕ → List ℕ
 decimal n = decimalWithin 20 n
 
+-- Positions and the lengths of words stay at most this, so that sums of them fit.
+abbrev pub mostText : ℕ
+mostText = 65536
+
 -- `out` with s in place of its bytes from `at` on.
 abbrev pub written : List ℕ → ℕ → List ℕ → List ℕ
 written out at s = take at out ++ s ++ drop (at + length s) out

@@ -3,7 +3,7 @@ ghost use mathlib.Core.Path.{_≡_};
 ghost use Prim.Native.Nat.{_+_, _≤_};
 ghost use lib.ListN.{length};
 ghost use mathlib.Core.List.{_++_};
-ghost use Rattle.text.specs.Text.{written, decimal, decimalWithin};
+ghost use Rattle.text.specs.Text.{written, decimal, decimalWithin, mostText};
 
 // The word, at `at`; the position after it.
 pub fn put(out: &mut [u8], at: usize, word: &[u8]) -> usize
@@ -45,7 +45,7 @@ pub fn put_decimal(out: &mut [u8], at: usize, n: usize) -> usize
 
 // The number n in decimal and then the word, at `at`; the position after them.
 pub fn put_count(out: &mut [u8], at: usize, n: usize, word: &[u8]) -> usize
-    requires { ⌜ (at + length (now word) + 20 ≤ length (now out)) × (at ≤ 65536) × (length (now word) ≤ 65536) ⌝ }
+    requires { ⌜ (at + length (now word) + 20 ≤ length (now out)) × (at ≤ mostText) × (length (now word) ≤ mostText) ⌝ }
     ensures { λ r. ⌜ (r ≡ at + length (decimal n ++ now (word .entry))) × (now (out .exit) ≡ written (now (out .entry)) at (decimal n ++ now (word .entry))) × (r ≤ at + length (now (word .entry)) + 20) ⌝ }
 {
     let k = put_decimal(out, at, n);
