@@ -24,8 +24,18 @@ use witness::box_steps;
 use witness::figure_case;
 use witness::zero_step;
 
-// The graph stands in the room after a model of any length and one byte more.
-const GRAPH: usize = 40001;
+// The longest model and the longest graph, and one byte more of each.
+const MODEL_ROOM: usize = 40000 + 1;
+
+const GRAPH_ROOM: usize = 1048576 + 1;
+
+// The graph stands in the room after the model's.
+const GRAPH: usize = MODEL_ROOM;
+
+const ROOM: usize = MODEL_ROOM + GRAPH_ROOM;
+
+// Bytes for the script.
+const SCRIPT_ROOM: usize = 65536;
 
 // Where the model and the graph in the room end.
 struct Folders {
@@ -183,16 +193,16 @@ fn run(t: &mut [usize; 40], room: &mut [u8], script: &[u8]) {
 }
 
 // A script that fills its room may have been cut: that is wrong, at line 0.
-fn start(t: &mut [usize; 40], room: &mut [u8; 1088578], script: &mut [u8; 65536]) {
+fn start(t: &mut [usize; 40], room: &mut [u8; ROOM], script: &mut [u8; SCRIPT_ROOM]) {
     let n = io::read_full(0, script);
-    hold(t, n < 65536, n, 0);
+    hold(t, n < SCRIPT_ROOM, n, 0);
     run(t, room, head(script, n));
 }
 
 fn main() {
     let mut t = [0; 40];
-    let mut room = [0; 1088578];
-    let mut script = [0; 65536];
+    let mut room = [0; ROOM];
+    let mut script = [0; SCRIPT_ROOM];
     start(&mut t, &mut room, &mut script);
     tally::say_table(&t);
 }

@@ -1,5 +1,11 @@
 // Arithmetic and reading for the tests, which nothing can break: sums, products and differences stop at the ends of 64
 // bits, and past the end of a slice a byte is 0.
+
+// What a field of 2 bytes stays below, and half of it, from where on a signed one is negative.
+pub const FIELD_LIMIT: usize = 65536;
+
+pub const HALF_LIMIT: usize = FIELD_LIMIT / 2;
+
 pub fn add(a: usize, b: usize) -> usize {
     if a <= usize::MAX - b {
         a + b
@@ -35,5 +41,5 @@ pub fn field(s: &[u8], k: usize) -> usize {
 }
 
 pub fn long(s: &[u8], k: usize) -> usize {
-    add(field(s, k), mul(65536, field(s, add(k, 2))))
+    add(field(s, k), mul(FIELD_LIMIT, field(s, add(k, 2))))
 }

@@ -1,4 +1,5 @@
 // Folders from text. All writing is total: past the buffer's end nothing happens.
+use clamped::FIELD_LIMIT;
 use clamped::add;
 use clamped::byte;
 use clamped::field;
@@ -26,7 +27,7 @@ pub fn put16(out: &mut [u8], at: usize, v: usize) {
 
 pub fn put32(out: &mut [u8], at: usize, v: usize) {
     put16(out, at, v);
-    put16(out, add(at, 2), v / 65536);
+    put16(out, add(at, 2), v / FIELD_LIMIT);
 }
 
 // The character at k, or 0.
@@ -100,7 +101,7 @@ fn pen_at(at: usize, size: usize) -> Pen {
 fn meant(p: Pen) -> usize {
     let mark = p.mark;
     match mark {
-        b'-' => sub(65536, p.value),
+        b'-' => sub(FIELD_LIMIT, p.value),
         b'~' => sub(sub(p.at, p.start) / 8, p.value),
         _ => p.value,
     }

@@ -2,6 +2,8 @@
 // folders' bytes by itself, works expressions out by plain recursion and finds best chances by going through the
 // states. It believes that its model passed the check; on any bytes it is safe and it ends, and that is all its
 // contracts say. A whole number x is kept as ZERO + x, so that no number here is signed.
+use clamped::FIELD_LIMIT;
+use clamped::HALF_LIMIT;
 use clamped::add;
 use clamped::field;
 use clamped::long;
@@ -9,6 +11,8 @@ use clamped::mul;
 use clamped::sub;
 
 pub const ZERO: usize = 1099511627776;
+
+pub const MOST_VARIABLES: usize = 16;
 
 const CERTAIN: usize = 1000000000;
 
@@ -37,8 +41,8 @@ fn over(a: usize, b: usize) -> usize {
     if b == 0 { 0 } else { a / b }
 }
 
-fn value_of(s: &[usize; 16], i: usize) -> usize {
-    if i < 16 { s[i] } else { ZERO }
+fn value_of(s: &[usize; MOST_VARIABLES], i: usize) -> usize {
+    if i < MOST_VARIABLES { s[i] } else { ZERO }
 }
 
 fn start(s: &[u8], e: usize) -> usize {
@@ -97,10 +101,10 @@ fn branch_part(m: &[u8], r: usize, i: usize) -> usize {
 }
 
 fn whole(u: usize) -> usize {
-    if u < 32768 {
+    if u < HALF_LIMIT {
         add(ZERO, u)
     } else {
-        sub(add(ZERO, u), 65536)
+        sub(add(ZERO, u), FIELD_LIMIT)
     }
 }
 
@@ -138,7 +142,7 @@ fn joined(op: usize, x: usize, y: usize) -> usize {
 }
 
 // Entry e in a state, a truth as 1 or 0; 0 once the fuel is spent.
-fn meaning(m: &[u8], s: &[usize; 16], e: usize, fuel: usize) -> usize {
+fn meaning(m: &[u8], s: &[usize; MOST_VARIABLES], e: usize, fuel: usize) -> usize {
     if fuel == 0 {
         return 0;
     }
@@ -164,11 +168,11 @@ fn meaning(m: &[u8], s: &[usize; 16], e: usize, fuel: usize) -> usize {
     joined(op, x, y)
 }
 
-pub fn is_target(m: &[u8], s: &[usize; 16]) -> bool {
+pub fn is_target(m: &[u8], s: &[usize; MOST_VARIABLES]) -> bool {
     meaning(m, s, target(m), LEVELS) == 1
 }
 
-pub fn enabled(m: &[u8], s: &[usize; 16], c: usize) -> bool {
+pub fn enabled(m: &[u8], s: &[usize; MOST_VARIABLES], c: usize) -> bool {
     meaning(m, s, guard(m, c), LEVELS) == 1
 }
 
@@ -184,10 +188,10 @@ fn first_branch(m: &[u8], c: usize) -> usize {
 }
 
 // n signed fields, one each `step` bytes.
-fn values_at(s: &[u8], at: usize, step: usize, n: usize) -> [usize; 16] {
-    let mut row = [ZERO; 16];
+fn values_at(s: &[u8], at: usize, step: usize, n: usize) -> [usize; MOST_VARIABLES] {
+    let mut row = [ZERO; MOST_VARIABLES];
     let mut i = 0;
-    while i < 16 {
+    while i < MOST_VARIABLES {
         if i < n {
             row[i] = whole(field(s, add(at, mul(i, step))));
         }
@@ -196,21 +200,21 @@ fn values_at(s: &[u8], at: usize, step: usize, n: usize) -> [usize; 16] {
     row
 }
 
-pub fn initial(m: &[u8]) -> [usize; 16] {
+pub fn initial(m: &[u8]) -> [usize; MOST_VARIABLES] {
     values_at(m, add(start(m, 1), 4), 6, variables(m))
 }
 
-pub fn concrete(m: &[u8], g: &[u8], i: usize) -> [usize; 16] {
+pub fn concrete(m: &[u8], g: &[u8], i: usize) -> [usize; MOST_VARIABLES] {
     values_at(g, add(node_start(m, g, i), 12), 2, variables(m))
 }
 
 // The state that a branch gives; all its entries read the old one.
-pub fn next(m: &[u8], s: &[usize; 16], c: usize, b: usize) -> [usize; 16] {
+pub fn next(m: &[u8], s: &[usize; MOST_VARIABLES], c: usize, b: usize) -> [usize; MOST_VARIABLES] {
     let r = add(first_branch(m, c), b);
     let n = variables(m);
-    let mut row = [ZERO; 16];
+    let mut row = [ZERO; MOST_VARIABLES];
     let mut i = 0;
-    while i < 16 {
+    while i < MOST_VARIABLES {
         if i < n {
             row[i] = meaning(m, s, branch_part(m, r, i + 1), LEVELS);
         }
@@ -219,12 +223,12 @@ pub fn next(m: &[u8], s: &[usize; 16], c: usize, b: usize) -> [usize; 16] {
     row
 }
 
-// The first variable whose value is outside its range, or 16.
-fn first_outside(m: &[u8], s: &[usize; 16]) -> usize {
+// The first variable whose value is outside its range, or `MOST_VARIABLES`.
+fn first_outside(m: &[u8], s: &[usize; MOST_VARIABLES]) -> usize {
     let low = values_at(m, start(m, 1), 6, variables(m));
     let high = values_at(m, add(start(m, 1), 2), 6, variables(m));
     let mut i = 0;
-    while i < 16 {
+    while i < MOST_VARIABLES {
         if s[i] < low[i] {
             return i;
         }
@@ -243,7 +247,7 @@ fn due(number: usize, place: usize) -> Verdict {
 // The step of the first n values, into a row of `room` values.
 pub fn step_verdict(
     m: &[u8],
-    s: &[usize; 16],
+    s: &[usize; MOST_VARIABLES],
     n: usize,
     room: usize,
     c: usize,
@@ -279,7 +283,7 @@ fn power(d: usize, k: usize) -> usize {
 }
 
 // P(k, s).
-fn chance(m: &[u8], s: &[usize; 16], k: usize, fuel: usize) -> usize {
+fn chance(m: &[u8], s: &[usize; MOST_VARIABLES], k: usize, fuel: usize) -> usize {
     if is_target(m, s) {
         return power(total(m), k);
     }
@@ -293,7 +297,7 @@ fn chance(m: &[u8], s: &[usize; 16], k: usize, fuel: usize) -> usize {
 }
 
 // The greatest over the commands from c on.
-fn best(m: &[u8], s: &[usize; 16], k: usize, c: usize, fuel: usize) -> usize {
+fn best(m: &[u8], s: &[usize; MOST_VARIABLES], k: usize, c: usize, fuel: usize) -> usize {
     if fuel == 0 {
         return 0;
     }
@@ -309,7 +313,7 @@ fn best(m: &[u8], s: &[usize; 16], k: usize, c: usize, fuel: usize) -> usize {
 }
 
 // The sum over the branches of command c from b on.
-fn sum(m: &[u8], s: &[usize; 16], k: usize, c: usize, b: usize, fuel: usize) -> usize {
+fn sum(m: &[u8], s: &[usize; MOST_VARIABLES], k: usize, c: usize, b: usize, fuel: usize) -> usize {
     if fuel == 0 {
         return 0;
     }
@@ -323,7 +327,7 @@ fn sum(m: &[u8], s: &[usize; 16], k: usize, c: usize, b: usize, fuel: usize) -> 
 }
 
 // P(k, s) times S.
-fn scaled(m: &[u8], s: &[usize; 16], k: usize) -> usize {
+fn scaled(m: &[u8], s: &[usize; MOST_VARIABLES], k: usize) -> usize {
     mul(chance(m, s, k, FUEL), CERTAIN)
 }
 

@@ -6,6 +6,8 @@ use clamped::byte;
 use clamped::long;
 use clamped::mul;
 use clamped::sub;
+use folder::FIELD_LIMIT;
+use graph::UNITS;
 use samples::build::pedal_graph;
 use samples::build::pedal_model;
 use samples::build::put16;
@@ -22,6 +24,9 @@ use tally::place_of;
 use witness::bounds;
 use witness::box_steps;
 use witness::rows_case;
+
+// The greatest D: it is a field of 2 bytes.
+const MOST_TOTAL: usize = FIELD_LIMIT - 1;
 
 // An accepted model with a graph whose answer has the number n: steps where they are asked for, bounds where the graph is
 // accepted.
@@ -100,7 +105,7 @@ fn weigh_model(m: &mut [u8], d: usize, w: usize) {
 // Its graph, with the least values that the value rule allows.
 fn weigh_graph(g: &mut [u8], d: usize, w: usize) {
     pedal_graph(g);
-    let after = rounded_up(mul(w, 1000000000), d);
+    let after = rounded_up(mul(w, UNITS), d);
     let root = rounded_up(mul(w, after), d);
     put32(g, 20, root);
     put32(g, 60, after);
@@ -144,7 +149,7 @@ fn families(t: &mut [usize; 40]) {
         let w = 1 + i % 12;
         t[PLACE] = 2001 + i;
         weighed(t, d, w);
-        weighed(t, 65535 - d, mul(w, 5000));
+        weighed(t, MOST_TOTAL - d, mul(w, 5000));
         i += 1;
     }
 }

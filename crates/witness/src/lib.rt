@@ -1,8 +1,10 @@
 // The library's steps, figures and root values against the solver's, and the figure call's answers and rows. Safe and
 // ending on any arguments; its contracts say no more.
+use clamped::HALF_LIMIT;
 use clamped::add;
 use clamped::sub;
 use graph::MOST_NODES;
+use solver::MOST_VARIABLES;
 use solver::Trial;
 use solver::ZERO;
 use tally::BOUNDS;
@@ -19,18 +21,22 @@ const KEPT: i16 = 7;
 fn small(x: usize) -> i16 {
     if x < ZERO {
         let d = ZERO - x;
-        if d < 32768 { !((d - 1) as i16) } else { -32768 }
+        if d < HALF_LIMIT {
+            !((d - 1) as i16)
+        } else {
+            i16::MIN
+        }
     } else {
         let d = x - ZERO;
-        if d < 32768 { d as i16 } else { 32767 }
+        if d < HALF_LIMIT { d as i16 } else { i16::MAX }
     }
 }
 
 // The first n values as the library takes them.
-fn row_of(s: &[usize; 16], n: usize) -> [i16; 16] {
-    let mut row = [KEPT; 16];
+fn row_of(s: &[usize; MOST_VARIABLES], n: usize) -> [i16; MOST_VARIABLES] {
+    let mut row = [KEPT; MOST_VARIABLES];
     let mut i = 0;
-    while i < 16 {
+    while i < MOST_VARIABLES {
         if i < n {
             row[i] = small(s[i]);
         }
@@ -39,9 +45,9 @@ fn row_of(s: &[usize; 16], n: usize) -> [i16; 16] {
     row
 }
 
-fn same_rows(a: &[i16; 16], b: &[i16; 16]) -> bool {
+fn same_rows(a: &[i16; MOST_VARIABLES], b: &[i16; MOST_VARIABLES]) -> bool {
     let mut i = 0;
-    while i < 16 {
+    while i < MOST_VARIABLES {
         if a[i] != b[i] {
             return false;
         }
@@ -58,11 +64,17 @@ fn first_room(s: &mut [i16], n: usize) -> &mut [i16] {
     if n <= s.len() { &mut s[0..n] } else { s }
 }
 
-fn due_row(m: &[u8], s: &[usize; 16], c: usize, b: usize, accepted: bool) -> [i16; 16] {
+fn due_row(
+    m: &[u8],
+    s: &[usize; MOST_VARIABLES],
+    c: usize,
+    b: usize,
+    accepted: bool,
+) -> [i16; MOST_VARIABLES] {
     if accepted {
         row_of(&solver::next(m, s, c, b), solver::variables(m))
     } else {
-        [KEPT; 16]
+        [KEPT; MOST_VARIABLES]
     }
 }
 
@@ -71,15 +83,15 @@ fn due_row(m: &[u8], s: &[usize; 16], c: usize, b: usize, accepted: bool) -> [i1
 fn step_case(
     t: &mut [usize; 40],
     m: &[u8],
-    s: &[usize; 16],
+    s: &[usize; MOST_VARIABLES],
     n: usize,
     room: usize,
     c: usize,
     b: usize,
 ) {
     let due = solver::step_verdict(m, s, n, room, c, b);
-    let state = row_of(s, 16);
-    let mut row = [KEPT; 16];
+    let state = row_of(s, MOST_VARIABLES);
+    let mut row = [KEPT; MOST_VARIABLES];
     let o = laguipy::step(m, first_values(&state, n), c, b, first_room(&mut row, room));
     count(t, STEPS);
     judge(t, o, due.number, due.place);
@@ -89,12 +101,12 @@ fn step_case(
 
 // The same of n zeros.
 pub fn zero_step(t: &mut [usize; 40], m: &[u8], n: usize, room: usize, c: usize, b: usize) {
-    step_case(t, m, &[ZERO; 16], n, room, c, b);
+    step_case(t, m, &[ZERO; MOST_VARIABLES], n, room, c, b);
 }
 
 // A state of the pedal model, at j of a box that goes one past each range.
-fn box_state(j: usize) -> [usize; 16] {
-    let mut s = [ZERO; 16];
+fn box_state(j: usize) -> [usize; MOST_VARIABLES] {
+    let mut s = [ZERO; MOST_VARIABLES];
     s[0] = sub(add(ZERO, j % 6), 1);
     s[1] = sub(add(ZERO, j / 6 % 4), 1);
     s
@@ -104,7 +116,7 @@ fn box_state(j: usize) -> [usize; 16] {
 pub fn box_steps(t: &mut [usize; 40], m: &[u8]) {
     let mut j = 0;
     while j < 216 {
-        step_case(t, m, &box_state(j), 2, 16, j / 24 % 3, j / 72);
+        step_case(t, m, &box_state(j), 2, MOST_VARIABLES, j / 24 % 3, j / 72);
         j += 1;
     }
 }

@@ -1,13 +1,14 @@
 use Prim.Native.Nat.{_≤_, _-_}
 use borrow.Author.Needs.{needs}
+use Rattle.solver.specs.Limits.{mostVariables}
 use Rattle.witness.proofs.row_of.Statement.{statement}
 use Rattle.witness.proofs.row_of.Tie as tie
 
 abbrev Inv-loop : tie.InvT-loop
-Inv-loop s n row₀ i₀ row i = i ≤ 16
+Inv-loop s n row₀ i₀ row i = i ≤ mostVariables
 
 abbrev μ-loop : tie.MeasureT-loop
-μ-loop s n row₀ i₀ row i = 16 - i
+μ-loop s n row₀ i₀ row i = mostVariables - i
 
 pub row-of-spec : {M : Type 1} → statement M
 row-of-spec =

@@ -1,13 +1,14 @@
 use Prim.Native.Nat.{_≤_, _-_}
 use borrow.Author.Needs.{needs}
+use Rattle.solver.specs.Limits.{mostVariables}
 use Rattle.witness.proofs.same_rows.Statement.{statement}
 use Rattle.witness.proofs.same_rows.Tie as tie
 
 abbrev Inv-loop : tie.InvT-loop
-Inv-loop a b i₀ i = i ≤ 16
+Inv-loop a b i₀ i = i ≤ mostVariables
 
 abbrev μ-loop : tie.MeasureT-loop
-μ-loop a b i₀ i = 16 - i
+μ-loop a b i₀ i = mostVariables - i
 
 pub same-rows-spec : {M : Type 1} → statement M
 same-rows-spec =
