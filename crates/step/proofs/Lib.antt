@@ -1,3 +1,2 @@
-mod Casts
 mod FillLaws
 mod StepLaws

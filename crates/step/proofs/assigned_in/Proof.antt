@@ -8,7 +8,7 @@ use lib.Signed.{mag}
 use mir.Syntax.{w16, w64}
 use denote.Ref.{now}
 use Rattle.step.specs.Stepping.{valueIn}
-use Rattle.step.proofs.Casts.{cast-fits, cast-back}
+use Rattle.folder.proofs.Signed.{cast-fits, cast-back}
 use Rattle.step.proofs.assigned_in.Statement.{statement}
 use Rattle.step.proofs.assigned_in.Tie as tie
 

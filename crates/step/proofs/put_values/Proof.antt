@@ -4,7 +4,7 @@ use native.Mathlib.Omega.{arith}
 use borrow.Author.Needs.{needs}
 use Rattle.folder.proofs.FillLaws.{Filled, fill-start, fill-next, fill-over}
 use Rattle.step.specs.Stepping.{valueIn}
-use Rattle.step.proofs.Casts.{back16}
+use Rattle.folder.proofs.Signed.{back16}
 use Rattle.step.proofs.put_values.Statement.{statement}
 use Rattle.step.proofs.put_values.Tie as tie
 

@@ -3,7 +3,7 @@ use mir.Syntax.{w16, w64}
 use lib.IntN.{ℤ, pos}
 use lib.ListN.{getD, List·getD-eq-default}
 use borrow.Author.Needs.{needs}
-use Rattle.step.proofs.Casts.{cast-fits, cast-back}
+use Rattle.folder.proofs.Signed.{cast-fits, cast-back}
 use Rattle.step.proofs.value_of.Statement.{statement}
 use Rattle.step.proofs.value_of.Tie as tie
 
