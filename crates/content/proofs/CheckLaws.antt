@@ -16,7 +16,7 @@ use Rattle.folder.specs.declared.Refusal.{Refusal}
 use Rattle.folder.specs.declared.Outcome.{Outcome}
 use Rattle.folder.specs.declared.Outcome.the-variants.{Accepted, Refused}
 use Rattle.folder.proofs.TableLaws.{accepted-asks, accepted-then, refused-then}
-use Rattle.folder.proofs.ScanLaws.{found, found-le}
+use Rattle.folder.proofs.ScanLaws.{all-passed, found-le}
 use Rattle.whole.proofs.Order.{from-⊑, ⊑-refl}
 use Rattle.expressions.specs.Entries.{entriesOf}
 use Rattle.expressions.specs.Ranges.{boundIn}
@@ -33,10 +33,6 @@ use Rattle.model.specs.Rules.{variableFits, recordsAddUp}
 use Rattle.model.specs.Table.{folderRows, contentRows, modelOutcome}
 use Rattle.model.specs.Valid.{FolderRight}
 use Rattle.model.proofs.Decided.{variable-decided, folder-asks}
-
--- A scan of n places that came to its end.
-passed : (ok : ℕ → Bool) (places : ℕ) {n p : ℕ} → n ≡ places → p ≡ firstBad ok n → n ≤ p → (k : ℕ) → k < places → ok k ≡ true
-passed ok places {n} q e l k h = found ok n .before k (omega arith)
 
 pub added-up : (M : Model) → recordsAddUp M ≡ true → M .records ≡ firstRecord M (M .commands)
 unfolding recordsAddUp
@@ -61,8 +57,8 @@ module _ (m : List ℕ) where
     pub based : {n p : ℕ} → n ≡ variableCount m → p ≡ firstBad (variableFits (modelOf m)) n → n ≤ p
         → {k r : ℕ} → k ≡ countOf 8 (body m 2) → r ≡ firstBad (entryFits (entriesOf (body m 2)) (variableCount m)) k → k ≤ r → Based x y
     based a b c d e f = rw (q, s) (record {
-      lower = lower (entriesOf (body m 2)) (variableCount m) (λ i l. entry-decided (entriesOf (body m 2)) (variableCount m) i .yes (passed _ _ d e f i l));
-      ordered = λ v. ordered (passed _ _ a b c) v (decLt v (variableCount m));
+      lower = lower (entriesOf (body m 2)) (variableCount m) (λ i l. entry-decided (entriesOf (body m 2)) (variableCount m) i .yes (all-passed _ _ e f i (rw d l)));
+      ordered = λ v. ordered (λ i l. all-passed _ _ b c i (rw a l)) v (decLt v (variableCount m));
     })
 
     -- What row 10 needs of row 6.

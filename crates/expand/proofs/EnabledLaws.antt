@@ -1,25 +1,21 @@
 -- B1 as the code walks it: over the commands, with a cursor on the node's edges, it decides whether the edges' commands are
 -- those that pass a test.
 -- Assumes nothing.
-use Prim.Native.Nat.{ℕ, zero, suc, _+_, _<_, _≤_, zero-le}
-use native.Mathlib.Nat.{eq-or-lt-of-le, le-of-suc-le-suc, not-suc-le-zero}
+use Prim.Native.Nat.{ℕ, _+_, _<_, _≤_, zero-le}
 use native.Mathlib.Numerals.{add-one}
 use native.Mathlib.Omega.{arith}
-use mathlib.Core.Path.{_≡_, refl, sym, ap, ap₂, _∙_, subst}
-use mathlib.Core.Logic.{⊎-elim}
+use mathlib.Core.Path.{_≡_, refl, sym, ap, ap₂, _∙_}
 use mathlib.Core.Bool.{Bool, true, false, false≢true}
 use mathlib.Core.List.{List, [], _∷_, _++_, append-nil}
 use borrow.Author.Tests.{ltb-true, eqb-true, lt-ltb, eq-eqb, not-true}
 use lib.Dec.{ltb, eqb}
-use lib.ListN.{length, getD, length-append, List·getD-append}
-use lib.Seq.{getD-append-seam}
+use lib.ListN.{length, getD}
 use lib.IntN.{ℤ}
-use Rattle.folder.specs.Pick.{pick}
 use Rattle.folder.specs.Fields.{u16}
 use Rattle.folder.specs.Contents.{body}
 use Rattle.folder.specs.Tab.{tab, passing, sameList}
 use Rattle.folder.proofs.Decides.{and-both, both-and, unless, same, same-lists, same-test, reworded}
-use Rattle.folder.proofs.TabLaws.{length-tab, getD-tab, passing-same}
+use Rattle.folder.proofs.TabLaws.{length-tab, getD-tab, passing-more, passing-stands, passing-same}
 use Rattle.model.specs.Model.{Model, modelOf}
 use Rattle.graph.specs.Simulation.{edgeSize, edgeAt, nodeField, simulationOf}
 use Rattle.graph.specs.Rules.{enabledIn, sameEdges}
@@ -28,27 +24,6 @@ use Rattle.graph.proofs.EdgePlaces.{place-start, place-next}
 use Rattle.expand.specs.Node.{NodeOf, LabelSettled}
 use Rattle.expand.specs.Tests.{trueAt, namesAt}
 use Rattle.expand.proofs.Readings.{true-is}
-
--- ---- numbers that pass a test
-module _ (test : ℕ → Bool) where
-  passing-more : (c : ℕ) (b : Bool) → test c ≡ b → passing (c + 1) test ≡ passing c test ++ pick b (c ∷ []) []
-  unfolding passing
-  passing-more c b e = rw (add-one, e)
-
-  -- One that passes stands after the lower ones.
-  abbrev Stands : ℕ → ℕ → Type 0
-  Stands c n = (length (passing c test) < length (passing n test)) × (getD (passing n test) (length (passing c test)) 0 ≡ c)
-
-  stands : (c n : ℕ) → c < n → test c ≡ true → Stands c n
-  unfolding passing
-  stands c zero l t = absurd (not-suc-le-zero l)
-  stands c (suc n) l t = ⊎-elim
-      (λ e. subst (λ (k : ℕ). Stands c (suc k)) e (rw t (omega (arith, length-append (passing c test) (c ∷ [])), getD-append-seam (passing c test) c [] 0)))
-      (λ k. let h = stands c n k t in (
-        omega (arith, h .0, length-append (passing n test) (pick (test n) (n ∷ []) [])),
-        List·getD-append (passing n test) (pick (test n) (n ∷ []) []) 0 (length (passing c test)) (h .0) ∙ h .1,
-      ))
-      (eq-or-lt-of-le (le-of-suc-le-suc l))
 
 -- ---- the walk
 module _ (M : Model) (g : List ℕ) (n : ℕ) (test : ℕ → Bool) where
@@ -96,7 +71,7 @@ module _ (M : Model) (g : List ℕ) (n : ℕ) (test : ℕ → Bool) where
       named : t ≡ true → tab edges command ≡ passing commands test → u ≡ true
       named f e =
           let j : length (passing c test) ≡ k = ap length (w .so-far) ∙ length-tab k command in
-          let s = stands test c commands l (sym h ∙ f) in
+          let s = passing-stands test c commands l (sym h ∙ f) in
           let i : k < edges = omega (arith, s .0, ap length e, length-tab edges command) in
           v ∙ both-and (ltb k edges) (eqb (u16 eb p) c) (lt-ltb k edges i)
           (eq-eqb (u16 eb p) c (here ∙ sym (getD-tab 0 edges command k i) ∙ ap₂ (λ (x : List ℕ) (y : ℕ). getD x y 0) e (sym j) ∙ s .1))

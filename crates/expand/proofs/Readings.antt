@@ -9,7 +9,7 @@ use borrow.Author.Tests.{ne-eqb}
 use lib.Dec.{eqb}
 use lib.ListN.{getD}
 use lib.IntN.{ℤ, pos}
-use Rattle.folder.specs.Pick.{pick, implies}
+use Rattle.folder.specs.Pick.{pick}
 use Rattle.folder.specs.Scan.{all}
 use Rattle.folder.specs.Contents.{body, field}
 use Rattle.folder.proofs.Decides.{all-same}
@@ -47,13 +47,6 @@ false-from false b = refl
 reads-from : (a : Bool) (y z : ℤ) → reads (pick a (Known y) Open) z ≡ (a && eqZ y z)
 reads-from true y z = refl
 reads-from false y z = refl
-
--- ---- a rule of expanded nodes; k is the node's kind
-pub when-expanded : (x : Bool) {kind k : ℕ} {t : Bool} → kind ≡ k → kind ≡ 1 → t ≡ x → t ≡ implies (eqb k 1) x
-when-expanded x p e q = rw (sym p ∙ e) q
-
-pub when-other : (x : Bool) {kind k : ℕ} → kind ≡ k → (kind ≡ 1 → ⊥) → true ≡ implies (eqb k 1) x
-when-other x {k = k} p f = rw (ne-eqb k 1 (λ e. f (p ∙ e)))
 
 -- ---- the command at c, by the body of commands: e is its guard, and t what a test of the guard answers
 pub at-guard : (test : ℕ → Bool) (m : List ℕ) (c : ℕ) {cs : List ℕ} {e : ℕ} {t : Bool} → cs ≡ body m 3 → e ≡ field 4 cs c 0 → t ≡ test e → t ≡ test (modelOf m .guard c)

@@ -5,12 +5,12 @@ use mathlib.Core.Path.{_≡_, sym, _∙_}
 use mathlib.Core.Bool.{true}
 use mathlib.Core.List.{List, _++_}
 use lib.ListN.{take, drop}
-use lib.Seq.{take-at}
 use lib.IntN.{ℤ, pos}
 use Rattle.folder.specs.Contents.{body, countOf, signedField}
 use Rattle.folder.specs.Tab.{tab}
 use Rattle.folder.proofs.Decides.{passes, everywhere, whenever}
 use Rattle.folder.proofs.TabLaws.{length-tab, getD-tab}
+use Rattle.folder.proofs.FillLaws.{take-filled}
 use Rattle.whole.proofs.Order.{equal-decided}
 use Rattle.expressions.specs.Limits.{allTracked}
 use Rattle.expressions.specs.Entries.{entriesOf}
@@ -31,10 +31,6 @@ use Rattle.graph.specs.Labels.{tracks, concreteState}
 use Rattle.graph.specs.Rules.{A1}
 use Rattle.expand.specs.Node.{NodeOf, StateSettled}
 
--- The loaded part of a row.
-pub loaded : {A : Type 0} (n : ℕ) (f : ℕ → A) (d : List A) {row : List A} → row ≡ tab n f ++ drop n d → take n row ≡ tab n f
-loaded n f d e = rw e (take-at (tab n f) (drop n d) n (length-tab n f))
-
 -- The same body, set and values by other names.
 pub settled-as : {x y : List ℕ} {t u : ℕ} {v w : List ℤ} {known : List ℕ} {values : List ℤ} → x ≡ y → t ≡ u → v ≡ w
     → Settled (entriesOf x) (lookIn t v) (countOf 8 x) known values → Settled (entriesOf y) (lookIn u w) (countOf 8 y) known values
@@ -53,10 +49,10 @@ module _ {m g : List ℕ} {n : ℕ} (node : NodeOf m g n) where
   -- What `load_row` loads.
   module _ {vars : ℕ} {nb : List ℕ} {row : List ℤ} (d : List ℤ) (p : vars ≡ variableCount m) (q : nb ≡ body g 0) where
     pub label-loaded : row ≡ tab vars (λ v. signedField (nodeSize vars) nb n (6 + vars + v)) ++ drop vars d → take vars row ≡ tab (M .variables) (G .label n)
-    label-loaded e = loaded vars (λ v. signedField (nodeSize vars) nb n (6 + vars + v)) d e ∙ (λ i. tab (p i) (λ v. signedField (nodeSize (p i)) (q i) n (6 + p i + v)))
+    label-loaded e = take-filled vars (λ v. signedField (nodeSize vars) nb n (6 + vars + v)) d e ∙ (λ i. tab (p i) (λ v. signedField (nodeSize (p i)) (q i) n (6 + p i + v)))
 
     pub state-loaded : row ≡ tab vars (λ v. signedField (nodeSize vars) nb n (6 + v)) ++ drop vars d → take vars row ≡ concreteState M G n
-    state-loaded e = loaded vars (λ v. signedField (nodeSize vars) nb n (6 + v)) d e ∙ (λ i. tab (p i) (λ v. signedField (nodeSize (p i)) (q i) n (6 + v)))
+    state-loaded e = take-filled vars (λ v. signedField (nodeSize vars) nb n (6 + v)) d e ∙ (λ i. tab (p i) (λ v. signedField (nodeSize (p i)) (q i) n (6 + v)))
 
   -- ---- the state
   formed : Formed (M .entries) (M .variables) (bound M)

@@ -2,25 +2,25 @@
 -- hands back.
 -- Assumes nothing.
 use Prim.Native.Nat.{ℕ, _%_, _≤_, _<_}
-use native.Mathlib.Omega.{arith}
 use mathlib.Core.Path.{_≡_, refl, sym, ap, _∙_}
-use mathlib.Core.Bool.{Bool, true}
-use mathlib.Core.List.{List, [], _∷_, _++_}
-use borrow.Author.Tests.{le-leb, lt-leb, leb-true, eq-eqb, ne-eqb}
+use mathlib.Core.Bool.{Bool}
+use mathlib.Core.List.{List, [], _++_}
+use borrow.Author.Tests.{le-leb, lt-leb, eq-eqb, ne-eqb}
 use lib.ListN.{length, take}
 use lib.Seq.{take-at}
 use lib.Dec.{leb, eqb}
 use Rattle.folder.specs.Pick.{pick}
 use Rattle.folder.specs.Scan.{firstBad}
-use Rattle.folder.specs.Table.{Row, outcome, AllHold, more}
+use Rattle.folder.specs.Table.{outcome}
 use Rattle.folder.specs.declared.Refusal.{Refusal}
 use Rattle.folder.specs.declared.Outcome.{Outcome}
 use Rattle.folder.specs.declared.Outcome.the-variants.{Accepted, Refused}
-use Rattle.folder.proofs.TableLaws.{accepted-holds}
+use Rattle.folder.proofs.TableLaws.{accepted-asks}
 use Rattle.model.specs.Model.{Model, modelOf}
 use Rattle.graph.specs.Simulation.{Simulation, simulationOf}
 use Rattle.graph.specs.Figures.{figures, figureRows, firstOf, secondOf, partOf, partInFirst}
 use Rattle.graph.specs.Valid.{Valid}
+use Rattle.graph.proofs.Decided.{figure-asks}
 use Rattle.rounds.proofs.FigureLaws.{figures-long}
 
 -- Row 28: no row is shorter than n.
@@ -40,9 +40,6 @@ module _ (n : ℕ) (first second : List ℕ) where
   unfolding firstBad
   both-long p q = rw (le-leb n (length first) p, le-leb n (length second) q) refl
 
-third-holds : {p q r : Row} {rs : List Row} → AllHold (p ∷ q ∷ r ∷ rs) → (k : ℕ) → k < r .count → r .ok k ≡ true
-third-holds (more a (more b (more h t))) = h .at
-
 module _ (m g : List ℕ) (h : ℕ) (first second : List ℕ) where
   abbrev M : Model
   M = modelOf m
@@ -57,8 +54,8 @@ module _ (m g : List ℕ) (h : ℕ) (first second : List ℕ) where
     -- Accepted, the rows are long enough for the rounds.
     pub rows-long : o ≡ Accepted → (G .nodes ≤ length first) × (G .nodes ≤ length second)
     rows-long t =
-        let l = third-holds (accepted-holds (figureRows G h first second) (sym e ∙ t)) in
-        (leb-true _ _ (l 0 (omega arith)), leb-true _ _ (l 1 (omega arith)))
+        let r = accepted-asks (figure-asks G h first second) .0 (sym e ∙ t) in
+        (r .first-long, r .second-long)
 
     -- Each way that the call ends: the outcome and the rows.
     pub filled : {a b : List ℕ} → o ≡ Accepted → a ≡ firstOf M G h Accepted first → b ≡ secondOf M G h Accepted second

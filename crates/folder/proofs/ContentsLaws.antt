@@ -1,13 +1,14 @@
 -- The test of a contents entry decides its rule; a body as a part of the folder, and its records.
 -- Assumes nothing.
-use Prim.Native.Nat.{ℕ, suc, _+_, _-_, _*_, _/_, _<_, _≤_}
+use Prim.Native.Nat.{ℕ, suc, _+_, _-_, _*_, _/_, _%_, _<_, _≤_}
 use mathlib.Core.Path.{_≡_, sym, ap, _∙_}
 use mathlib.Core.List.{List}
-use native.Mathlib.Nat.{add-sub-cancel-left, mul-le-mul-left, mul-suc, mul-div-le}
+use native.Mathlib.Nat.{add-sub-cancel-left, mul-le-mul-left, mul-suc, mul-div-le, div-add-mod}
 use native.Mathlib.Omega.{arith}
-use lib.ListN.{length, take, drop, length-take, length-drop, drop-of-length-le}
+use lib.ListN.{length, take, drop, length-take, length-drop, drop-of-length-le, List·getD-eq-default}
 use lib.Seq.{take-all, take-nil, drop-length}
-use Rattle.folder.specs.Contents.{startOf, lengthOf, dueStart, entryOk, EntryRight, body, countOf}
+use Rattle.folder.specs.Fields.{u16, u32}
+use Rattle.folder.specs.Contents.{startOf, lengthOf, dueStart, entryOk, EntryRight, body, countOf, field4}
 use Rattle.folder.proofs.Decides.{Decides, at-most, same, _∧also_, whenever, reworded}
 
 pub entry-decided : (s : List ℕ) (k e : ℕ) → Decides (EntryRight s k e) (entryOk s k e)
@@ -50,3 +51,22 @@ record-within size bytes i l =
 pub record-whole : (size : ℕ) (b : List ℕ) (i : ℕ) → i < countOf size b → size * i + size ≤ length b
 unfolding countOf
 record-whole size b i l = record-within size (length b) i l
+
+-- Past the last record every field is 0, where the body is whole records.
+records-end : (size : ℕ) (b : List ℕ) (k : ℕ) → length b % size ≡ 0 → countOf size b ≤ k → length b ≤ size * k
+unfolding countOf
+records-end size b k w l = omega (arith, div-add-mod (length b) size, w, mul-le-mul-left {m = length b / size} {n = k} size l)
+
+u32-past : (b : List ℕ) (p : ℕ) → length b ≤ p → u32 b p ≡ 0
+unfolding u16 u32
+u32-past b p l = omega (
+  arith,
+  List·getD-eq-default b 0 {n = p} l,
+  List·getD-eq-default b 0 {n = p + 1} (omega arith),
+  List·getD-eq-default b 0 {n = p + 2} (omega arith),
+  List·getD-eq-default b 0 {n = p + 2 + 1} (omega arith),
+)
+
+pub field4-past : (size : ℕ) (b : List ℕ) (k f : ℕ) → length b % size ≡ 0 → countOf size b ≤ k → field4 size b k f ≡ 0
+unfolding field4
+field4-past size b k f w l = u32-past b (size * k + 2 * f) (omega (arith, records-end size b k w l))

@@ -1,7 +1,9 @@
+pub mod PickLaws
 pub mod Decides
 pub mod ScanLaws
 pub mod TabLaws
 pub mod FillLaws
 pub mod TableLaws
+pub mod RuleLaws
 pub mod ContentsLaws
 pub mod Signed

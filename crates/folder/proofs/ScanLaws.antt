@@ -17,7 +17,7 @@ bool-cases false = inr refl
 
 module _ (ok : ℕ → Bool) where
   -- a loop that counts i up: its invariant is `firstBad ok i ≡ i`
-  pub scan-none : firstBad ok 0 ≡ 0
+  scan-none : firstBad ok 0 ≡ 0
   unfolding firstBad
   scan-none = refl
 
@@ -25,7 +25,7 @@ module _ (ok : ℕ → Bool) where
   unfolding firstBad
   scan-suc i e h = simp (e, eq-eqb i i refl, h)
 
-  pub scan-more : (i : ℕ) → firstBad ok i ≡ i → ok i ≡ true → firstBad ok (i + 1) ≡ i + 1
+  scan-more : (i : ℕ) → firstBad ok i ≡ i → ok i ≡ true → firstBad ok (i + 1) ≡ i + 1
   scan-more i e h = rw add-one (scan-suc i e h)
 
   stop-here : (i : ℕ) → firstBad ok i ≡ i → ok i ≡ false → firstBad ok (suc i) ≡ i
@@ -36,7 +36,7 @@ module _ (ok : ℕ → Bool) where
   unfolding firstBad
   stop-later i n e l = simp (e, ne-eqb i n (λ q. omega arith))
 
-  pub scan-stop : (i n : ℕ) → firstBad ok i ≡ i → ok i ≡ false → i < n → firstBad ok n ≡ i
+  scan-stop : (i n : ℕ) → firstBad ok i ≡ i → ok i ≡ false → i < n → firstBad ok n ≡ i
   scan-stop i zero e h l = absurd (not-suc-le-zero l)
   scan-stop i (suc n) e h l =
       ⊎-elim (λ q. subst (λ (k : ℕ). firstBad ok (suc k) ≡ i) q (stop-here i e h))
@@ -67,6 +67,13 @@ module _ (ok : ℕ → Bool) where
   pub found : (n : ℕ) → Found n (firstBad ok n)
   found zero = found-zero
   found (suc n) = found-suc n (found n) (eq-or-lt-of-le (found n .within))
+
+  -- a scan of n places that came to its end
+  pub all-passed : (n : ℕ) {p : ℕ} → p ≡ firstBad ok n → n ≤ p → (k : ℕ) → k < n → ok k ≡ true
+  all-passed n e l k h = found n .before k (omega arith)
+
+  pub all-true : (n : ℕ) → all ok n ≡ true → (k : ℕ) → k < n → ok k ≡ true
+  all-true n h = all-passed n (sym (eqb-true _ _ h)) (le-refl n)
 
   -- the other way
   pub all-found : (n : ℕ) → ((k : ℕ) → k < n → ok k ≡ true) → firstBad ok n ≡ n
@@ -113,12 +120,7 @@ pub only-is : {p : ℕ} {a b : Bool} → p ≡ firstBad (λ x. a) 1 → a ≡ b 
 only-is e q = e ∙ ap (λ (t : Bool). firstBad (λ x. t) 1) q
 
 pub only-true : {p : ℕ} {b : Bool} → p ≡ firstBad (λ x. b) 1 → 1 ≤ p → b ≡ true
-only-true {p} {b} e l = found (λ x. b) 1 .before 0 (omega arith)
+only-true {b = b} e l = all-passed (λ x. b) 1 e l 0 (omega arith)
 
 pub found-le : (ok : ℕ → Bool) (n : ℕ) {p : ℕ} → p ≡ firstBad ok n → p ≤ n
 found-le ok n e = rw e (found ok n .within)
-
-pub all-true : (ok : ℕ → Bool) (n : ℕ) → all ok n ≡ true → (k : ℕ) → k < n → ok k ≡ true
-all-true ok n h k l =
-    let e : firstBad ok n ≡ n = eqb-true _ _ h in
-    found ok n .before k (rw e l)

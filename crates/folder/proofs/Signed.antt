@@ -2,7 +2,7 @@
 -- that fits 16 bits fits any wider width, and reads back from there too.
 -- Assumes nothing.
 use Prim.Native.Nat.{_<_, _^_}
-use mathlib.Core.Path.{_≡_, sym, _∙_, subst}
+use mathlib.Core.Path.{_≡_, sym, ap₂, _∙_, subst}
 use lib.Dec.{T, leb}
 use lib.IntN.{ℤ}
 use lib.Signed.{mag}
@@ -29,3 +29,8 @@ module _ (a b : Width) (p : T (leb 15 (hbits a))) (q : T (leb 15 (hbits b))) (z 
 
   pub cast-back : toZ b (ofZ b (toZ a (ofZ a z))) ≡ z
   cast-back = toZ-ofZ {w = b} cast-fits ∙ from-back
+
+-- A call on signed arguments, which it reads back from their bits.
+pub called : (op : ℤ → ℤ → ℤ) {r a b : ℤ} → mag r < 2 ^ 63 → r ≡ op (toZ w64 (ofZ w64 a)) (toZ w64 (ofZ w64 b)) → SFits w64 a → SFits w64 b
+    → toZ w64 (ofZ w64 r) ≡ op a b
+called op ok e h l = back ok ∙ e ∙ ap₂ op (back-fits h) (back-fits l)

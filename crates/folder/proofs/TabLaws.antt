@@ -2,7 +2,7 @@
 -- Assumes nothing.
 use Prim.Native.Nat.{ℕ, zero, suc, _+_, _<_}
 use mathlib.Core.Path.{_≡_, refl, sym, ap, _∙_, subst}
-use mathlib.Core.Logic.{_⊎_, inl, inr, ⊎-elim}
+use mathlib.Core.Logic.{⊎-elim}
 use mathlib.Core.Bool.{Bool, true, false}
 use mathlib.Core.List.{List, [], _∷_, _++_}
 use native.Mathlib.Nat.{eq-or-lt-of-le, le-of-suc-le-suc, not-suc-le-zero, le-step, le-refl}
@@ -10,7 +10,7 @@ use native.Mathlib.Decide.{decLt}
 use native.Mathlib.Numerals.{add-one}
 use native.Mathlib.Omega.{arith}
 use lib.ListN.{length, getD, length-append, List·getD-append}
-use lib.Seq.{getD-at, getD-append-seam}
+use lib.Seq.{getD-at, getD-append-seam, ext-getD}
 use Rattle.folder.specs.Pick.{pick}
 use Rattle.folder.specs.Tab.{tab, passing}
 
@@ -33,6 +33,10 @@ module _ {A : Type 0} where
   unfolding tab
   tab-same zero f g h = refl
   tab-same (suc n) f g h = λ i. tab-same n f g (λ k l. h k (le-step l)) i ++ (h n (le-refl (suc n)) i ∷ [])
+
+  -- A list by its own elements.
+  pub tab-own : (d : A) (l : List A) → tab (length l) (λ i. getD l i d) ≡ l
+  tab-own d l = ext-getD d _ l (length-tab (length l) _) (λ i h. getD-tab d (length l) (λ k. getD l k d) i (rw length-tab at h))
 
   pub same-tab : (n : ℕ) (f g : ℕ → A) → tab n f ≡ tab n g → (i : ℕ) → i < n → f i ≡ g i
   same-tab n f g e i l = sym (getD-tab (f 0) n f i l) ∙ ap (λ (t : List A). getD t i (f 0)) e ∙ getD-tab (f 0) n g i l
@@ -58,24 +62,25 @@ unfolding passing
 passing-at zero test e h = absurd (not-suc-le-zero h)
 passing-at (suc n) test e h = more-at n test (passing n test) (passing-at n test) (test n) refl e h (decLt e (length (passing n test)))
 
-abbrev pub Has : List ℕ → ℕ → Type 0
-Has l c = (e : ℕ) × (e < length l) × (getD l e 0 ≡ c)
+module _ (test : ℕ → Bool) where
+  pub passing-more : (c : ℕ) (b : Bool) → test c ≡ b → passing (c + 1) test ≡ passing c test ++ pick b (c ∷ []) []
+  unfolding passing
+  passing-more c b e = rw (add-one, e)
 
-has-more : (l r : List ℕ) (c : ℕ) → Has l c → Has (l ++ r) c
-has-more l r c h = (h .0, omega (arith, h .1, length-append l r), List·getD-append l r 0 (h .0) (h .1) ∙ h .2)
+  -- A number that passes is an entry, and stands after the lower ones.
+  abbrev Stands : ℕ → ℕ → Type 0
+  Stands c n = (length (passing c test) < length (passing n test)) × (getD (passing n test) (length (passing c test)) 0 ≡ c)
 
-has-last : (l : List ℕ) (n : ℕ) → Has (l ++ (n ∷ [])) n
-has-last l n = (length l, omega (arith, length-append l (n ∷ [])), getD-append-seam l n [] 0)
-
--- Each number that passes is an entry.
-pub passing-has : (n : ℕ) (test : ℕ → Bool) (c : ℕ) → c < n → test c ≡ true → Has (passing n test) c
-unfolding passing
-passing-has zero test c h t = absurd (not-suc-le-zero h)
-passing-has (suc n) test c h t = go (λ p. passing-has n test c p t) (eq-or-lt-of-le (le-of-suc-le-suc h))
-  where
-    go : (c < n → Has (passing n test) c) → (c ≡ n) ⊎ (c < n) → Has (passing n test ++ pick (test n) (n ∷ []) []) c
-    go below (inl e) = subst (λ (x : ℕ). Has (passing n test ++ pick (test n) (n ∷ []) []) x) (sym e) (rw (ap test (sym e) ∙ t) (has-last (passing n test) n))
-    go below (inr p) = has-more (passing n test) (pick (test n) (n ∷ []) []) c (below p)
+  pub passing-stands : (c n : ℕ) → c < n → test c ≡ true → Stands c n
+  unfolding passing
+  passing-stands c zero l t = absurd (not-suc-le-zero l)
+  passing-stands c (suc n) l t = ⊎-elim
+      (λ e. subst (λ (k : ℕ). Stands c (suc k)) e (rw t (omega (arith, length-append (passing c test) (c ∷ [])), getD-append-seam (passing c test) c [] 0)))
+      (λ k. let h = passing-stands c n k t in (
+        omega (arith, h .0, length-append (passing n test) (pick (test n) (n ∷ []) [])),
+        List·getD-append (passing n test) (pick (test n) (n ∷ []) []) 0 (length (passing c test)) (h .0) ∙ h .1,
+      ))
+      (eq-or-lt-of-le (le-of-suc-le-suc l))
 
 -- Two tests that agree on the numbers below n.
 pub passing-same : (n : ℕ) (a b : ℕ → Bool) → ((k : ℕ) → k < n → a k ≡ b k) → passing n a ≡ passing n b

@@ -7,23 +7,23 @@ use mathlib.Core.Logic.{_⊎_, inl, inr, ⊎-elim, _↔_}
 use mathlib.Core.Bool.{Bool, true, false, false≢true}
 use mathlib.Core.List.{List, [], _∷_, _++_}
 use borrow.Author.Tests.{lt-ltb, le-ltb}
-use native.Mathlib.Nat.{eq-or-lt-of-le}
+use native.Mathlib.Nat.{eq-or-lt-of-le, le-refl}
 use native.Mathlib.Omega.{arith}
 use Rattle.folder.specs.Scan.{firstBad}
-use Rattle.folder.specs.Table.{Row, Rule, single, allRules, firstBroken, outcome, Holds, AllHold, none, more, BrokenAt, Broken, BrokenRule}
+use Rattle.folder.specs.Table.{Row, Rule, single, refused, allRules, firstBroken, outcome, Holds, AllHold, none, more, BrokenAt, Broken, BrokenRule}
 use Rattle.folder.specs.declared.Refusal.{Refusal}
 use Rattle.folder.specs.declared.Outcome.{Outcome}
 use Rattle.folder.specs.declared.Outcome.the-variants.{Accepted, Refused}
 use Rattle.folder.proofs.Decides.{Decides}
-use Rattle.folder.proofs.ScanLaws.{found, all-found, found-at}
+use Rattle.folder.proofs.ScanLaws.{found, all-passed, all-found, found-at}
 
 -- ---- a chain of rows in the code, one law for each way
 module _ (r : Row) (rs : List Row) (p : ℕ) (e : p ≡ firstBad (r .ok) (r .count)) where
-  pub row-refused : p < r .count → outcome (r ∷ rs) ≡ Refused (r .gives p)
+  row-refused : p < r .count → outcome (r ∷ rs) ≡ Refused (r .gives p)
   unfolding outcome
   row-refused l = rw (← e) (simp (lt-ltb p (r .count) l))
 
-  pub row-passed : r .count ≤ p → outcome (r ∷ rs) ≡ outcome rs
+  row-passed : r .count ≤ p → outcome (r ∷ rs) ≡ outcome rs
   unfolding outcome
   row-passed l = rw (← e) (simp (le-ltb p (r .count) l))
 
@@ -50,6 +50,14 @@ module _ {whole : List Row} {r : Row} {rs : List Row} (h : Rest whole (r ∷ rs)
   pub row-holds : n ≤ p → Rest whole rs
   row-holds l = record { same = h .same ∙ row-passed r rs p (e ∙ ap (firstBad (r .ok)) q) (omega arith) }
 
+-- A row of one test, whose answer is t.
+module _ {whole rs : List Row} {number place : ℕ} {ok : Bool} (h : Rest whole (single number place ok ∷ rs)) {t : Bool} (e : t ≡ ok) where
+  pub test-refuses : t ≡ false → refused number place ≡ outcome whole
+  test-refuses f = refuses h {n = 1} {p = 0} refl (sym (found-at (λ _. ok) 1 0 (omega arith) (λ k l. absurd (omega arith)) (sym e ∙ f))) (omega arith)
+
+  pub test-holds : t ≡ true → Rest whole rs
+  test-holds f = row-holds h {n = 1} {p = 1} refl (sym (all-found (λ _. ok) 1 (λ k l. sym e ∙ f))) (omega arith)
+
 -- ---- what an outcome says
 abbrev first : Row → ℕ
 first r = firstBad (r .ok) (r .count)
@@ -61,7 +69,7 @@ ways : (r : Row) → Ways r
 ways r = eq-or-lt-of-le (found (r .ok) (r .count) .within)
 
 holds-of : (r : Row) → first r ≡ r .count → Holds r
-holds-of r q = record { at = λ k l. found (r .ok) (r .count) .before k (rw q l) }
+holds-of r q = record { at = all-passed (r .ok) (r .count) (sym q) (le-refl (r .count)) }
 
 passed-of : (r : Row) (rs : List Row) → first r ≡ r .count → outcome (r ∷ rs) ≡ outcome rs
 passed-of r rs q = row-passed r rs (first r) refl (omega arith)
@@ -74,7 +82,7 @@ broken-of r f l e =
 refused-of : (r : Row) (rs : List Row) → first r < r .count → outcome (r ∷ rs) ≡ Refused (r .gives (first r))
 refused-of r rs l = row-refused r rs (first r) refl l
 
-pub not-both : {A : Type 0} {o : Outcome} {f : Refusal} → o ≡ Accepted → o ≡ Refused f → A
+not-both : {A : Type 0} {o : Outcome} {f : Refusal} → o ≡ Accepted → o ≡ Refused f → A
 not-both e f = let z : _≡_ {A = ℕ} 0 1 = cc in absurd (omega arith)
 
 accepted-row : (r : Row) (rs : List Row) → Ways r → outcome (r ∷ rs) ≡ Accepted → Holds r × (outcome rs ≡ Accepted)

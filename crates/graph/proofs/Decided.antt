@@ -15,6 +15,7 @@ use lib.Signed.{_≤ℤ_}
 use Rattle.mdp.specs.Graph.{along}
 use Rattle.folder.specs.Contents.{body}
 use Rattle.folder.specs.Tab.{tab, passing}
+use Rattle.folder.proofs.PickLaws.{pick-all}
 use Rattle.folder.proofs.Decides.{Decides, passes, fails, at-most, at-mostZ, below, same, unless, whenever, either-way, always, _∧also_, everywhere, reworded, same-lists}
 use Rattle.folder.proofs.TabLaws.{tab-same, same-tab}
 use Rattle.folder.proofs.ContentsLaws.{entry-decided as contents-decided}
@@ -266,18 +267,14 @@ unfolding graphOutcome
 refused-first m g f e = refused-broken (modelRows m ++ graphRows (modelOf m) g) f e
 
 -- Rows 26 to 28.
-figure-asks : (G : Simulation) (h : ℕ) (first second : List ℕ) → AllHold (figureRows G h first second) ↔ FigureRight G h first second
+pub figure-asks : (G : Simulation) (h : ℕ) (first second : List ℕ) → AllHold (figureRows G h first second) ↔ FigureRight G h first second
 figure-asks G h first second = put-so
     (row-asks _ (λ n. unless (same (G .kind n) 0))
     row-and single-asks 27 0 (at-most h mostSteps)
     row-and row-asks _ (λ p. at-most (G .nodes) (length (pick (eqb p 0) first second)))
     row-and no-rows)
     (λ a. record { none-waits = a .0; few-steps = a .1 .0; first-long = a .1 .1 .0 0 (omega arith); second-long = a .1 .1 .0 1 (omega arith) })
-    (λ r. (r .none-waits, (r .few-steps, ((λ p l. by-row (eqb p 0) (r .first-long) (r .second-long)), tt))))
-  where
-    by-row : (t : Bool) → G .nodes ≤ length first → G .nodes ≤ length second → G .nodes ≤ length (pick t first second)
-    by-row true p q = p
-    by-row false p q = q
+    (λ r. (r .none-waits, (r .few-steps, ((λ p l. pick-all (λ (row : List ℕ). G .nodes ≤ length row) (eqb p 0) (r .first-long) (r .second-long)), tt))))
 
 -- The figure call is accepted if and only if the graph is, no node waits, and h and both rows are within their limits.
 pub figure-valid : (m g : List ℕ) (h : ℕ) (first second : List ℕ)

@@ -13,7 +13,7 @@ use Rattle.mdp.specs.Kinds.{Kind}
 use Rattle.mdp.specs.Graph.{Labelled, Valued}
 use Rattle.folder.specs.Pick.{pick}
 use Rattle.folder.specs.Tab.{tab, passing}
-use Rattle.folder.proofs.TabLaws.{length-tab, getD-tab, passing-at, passing-has}
+use Rattle.folder.proofs.TabLaws.{length-tab, getD-tab, passing-at, passing-stands}
 use Rattle.expressions.specs.Meaning.{State, valueOf, numberIn, truthIn}
 use Rattle.expressions.specs.Reading.{lookIn}
 use Rattle.expressions.specs.declared.Number.the-variants.{Known, Unknown as Open}
@@ -60,13 +60,6 @@ kind-back third = refl
 
 pub kind-is : (k : ℕ) → k ≤ 3 → (κ : Kind) → kindOf k ≡ κ → k ≡ numberOfKind κ
 kind-is k h κ e = sym (kind-back (kind-number k h)) ∙ ap numberOfKind e
-
-pub kind-of-number : (κ : Kind) → kindOf (numberOfKind κ) ≡ κ
-unfolding kindOf
-kind-of-number Kind.waiting = refl
-kind-of-number Kind.expanded = refl
-kind-of-number Kind.covered = refl
-kind-of-number Kind.target = refl
 
 module _ (M : Model) (R : ModelRight M) (G : Simulation) (K : ContentRight M G) (A : RulesRight M G) where
   tracked-there : (n : ℕ) → n < G .nodes → (i : ℕ) → tracks G n i ≡ true → i < M .variables
@@ -120,9 +113,10 @@ module _ (M : Model) (R : ModelRight M) (G : Simulation) (K : ContentRight M G) 
     edge-every : (d : ℕ) → d < M .commands → (s : State) → Contains M G n s → truthIn (M .entries) s (M .guard d) ≡ true
         → (e : ℕ) × (e < G .edges n) × (G .command n e ≡ d)
     edge-every d h s c o =
-        let f = passing-has (M .commands) (enabledIn M G n) d h (enabled-reads d h s c o) in
-        let k : f .0 < G .edges n = omega (arith, f .1, edge-count) in
-        (f .0, k, edge-listed (f .0) k ∙ f .2)
+        let e = length (passing d (enabledIn M G n)) in
+        let f = passing-stands (enabledIn M G n) d (M .commands) h (enabled-reads d h s c o) in
+        let k : e < G .edges n = omega (arith, f .0, edge-count) in
+        (e, k, edge-listed e k ∙ f .1)
 
     edge-within : (e : ℕ) → e < G .edges n → (b : ℕ) → b < M .branches (G .command n e) → (s : State) → Contains M G n s
         → Contains M G (G .successor n e b) (next M (G .command n e) b s)

@@ -4,13 +4,14 @@ use Prim.Native.Nat.{ℕ, _+_}
 use mathlib.Core.Path.{_≡_, refl, sym, ap, _∙_}
 use mathlib.Core.Bool.{Bool, true, false, not, _&&_, and-comm}
 use mathlib.Core.List.{List}
-use borrow.Author.Tests.{eq-eqb, ne-eqb}
+use borrow.Author.Tests.{eq-eqb}
 use lib.Dec.{ltb, eqb}
 use lib.IntN.{ℤ}
 use lib.Signed.{leZ}
 use Rattle.folder.specs.Pick.{implies}
 use Rattle.folder.specs.Contents.{body, countOf, field, signedField}
 use Rattle.folder.specs.Scan.{firstBad}
+use Rattle.folder.proofs.PickLaws.{when-unequal}
 use Rattle.folder.proofs.Decides.{all-same}
 use Rattle.whole.specs.Order.{eqZ}
 use Rattle.expressions.specs.Reading.{hasBit}
@@ -57,16 +58,13 @@ module _ {m g nb : List ℕ} {vars : ℕ} (P : Parts m g vars nb) (n : ℕ) wher
     kind-is : kind ≡ G .kind n
     kind-is = s ∙ rw (P .variables, P .nodes) refl
 
-    free : (kind ≡ 2 → ⊥) → (x : Bool) → true ≡ implies (eqb (G .kind n) 2) x
-    free h x = rw (ne-eqb (G .kind n) 2 (λ e. h (kind-is ∙ e))) refl
-
     pub c1-free : (kind ≡ 2 → ⊥) → true ≡ C1 M G n
     unfolding C1
-    c1-free h = free h _
+    c1-free h = when-unequal 2 _ kind-is h
 
     pub c2-free : (kind ≡ 2 → ⊥) → true ≡ C2 M G n
     unfolding C2
-    c2-free h = free h _
+    c2-free h = when-unequal 2 _ kind-is h
 
     -- k is what it reads for the cover, and `other` for the cover's kind.
     pub c3-is : {k other nodes : ℕ} → k ≡ field (nodeSize vars) nb n 1 → other ≡ field (nodeSize vars) nb k 0 → nodes ≡ countOf (nodeSize vars) nb

@@ -1,8 +1,8 @@
 -- The view: a record that is there lies within the folder, and where it starts.
 -- Assumes nothing.
 use Prim.Native.Nat.{ℕ, _+_, _-_, _*_, _<_, _≤_}
-use mathlib.Core.Path.{_≡_, refl}
-use mathlib.Core.Bool.{Bool, true, false, _&&_, false≢true}
+use mathlib.Core.Path.{_≡_, refl, sym}
+use mathlib.Core.Bool.{true, false, false≢true, and-false}
 use mathlib.Core.List.{List, []}
 use native.Mathlib.Nat.{zero-add, add-sub-cancel-left}
 use native.Mathlib.Omega.{arith}
@@ -26,13 +26,9 @@ pub accepted-is : (o : Outcome) → isAccepted o ≡ true → o ≡ Accepted
 accepted-is Accepted h = refl
 accepted-is (Refused f) h = absurd (false≢true h)
 
-and-false : (a : Bool) → false ≡ (a && false)
-and-false true = refl
-and-false false = refl
-
 pub no-body : (m : List ℕ) (e i : ℕ) → bodies ≤ e → false ≡ recordThere m e i
 unfolding recordThere
-no-body m e i l = rw (le-ltb e bodies l) (and-false (isAccepted (outcome (folderRows m))))
+no-body m e i l = rw (le-ltb e bodies l) (sym (and-false (isAccepted (outcome (folderRows m)))))
 
 -- A pointer moved on by as much, and by nothing.
 pub moved : (p : ℕ × ℕ) {a b : ℕ} → a ≡ b → _≡_ {A = ℕ × ℕ} (p .0, a + p .1) (p .0, b + p .1)

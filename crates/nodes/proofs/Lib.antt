@@ -1,2 +1,1 @@
-pub mod RuleLaws
 pub mod NodeLaws

@@ -1,16 +1,14 @@
 -- What the tables and rows 12 to 17 give to the rules of one node.
 -- Assumes nothing.
-use Prim.Native.Nat.{ℕ, _+_, _*_, _/_, _≤_, _<_}
-use native.Mathlib.Nat.{div-add-mod, mul-le-mul-left}
-use native.Mathlib.Decide.{decLt}
+use Prim.Native.Nat.{ℕ, _+_, _≤_, _<_}
 use native.Mathlib.Omega.{arith}
 use mathlib.Core.Path.{_≡_, refl, sym, ap, _∙_}
 use mathlib.Core.List.{List}
-use lib.ListN.{length, getD, replicate, getD-replicate, length-replicate, List·getD-eq-default}
+use lib.ListN.{length, getD, replicate, length-replicate}
 use borrow.Author.Tests.{ne-eqb}
 use Rattle.folder.specs.Table.{firstBroken}
-use Rattle.folder.specs.Fields.{fieldLimit, u16, u32}
-use Rattle.folder.specs.Contents.{body, countOf, field4}
+use Rattle.folder.specs.Fields.{fieldLimit}
+use Rattle.folder.specs.Contents.{body}
 use Rattle.model.specs.Limits.{mostVariables}
 use Rattle.model.specs.Layout.{variableCount}
 use Rattle.model.specs.Model.{modelOf}
@@ -25,11 +23,12 @@ use Rattle.graph.specs.Walks.{startsAt}
 use Rattle.graph.proofs.EdgePlaces.{place-skip}
 use Rattle.sums.specs.Tables.{Tables}
 use Rattle.folder.specs.Tab.{fill}
-use Rattle.folder.proofs.FillLaws.{getD-filled, getD-kept, length-fill}
+use Rattle.folder.proofs.FillLaws.{getD-everywhere, length-fill}
+use Rattle.folder.proofs.ContentsLaws.{field4-past}
 use Rattle.labels.specs.Values.{ValueReady}
 use Rattle.expand.specs.Node.{NodeOf, FirstsOf}
 use Rattle.nodes.specs.Ready.{RulesReady, readingRules}
-use Rattle.nodes.proofs.RuleLaws.{Numbered, none, more}
+use Rattle.folder.proofs.RuleLaws.{Numbered, none, more}
 
 module _ (m g : List ℕ) (n : ℕ) where
   pub reading-numbered : Numbered (readingRules m g n)
@@ -68,41 +67,11 @@ module _ {m g values weights firsts : List ℕ} (r : RulesReady m g values weigh
     starts = e;
   }
 
--- ---- the row of values: past the last node it has 0, as the folder has
-zeros : (n k : ℕ) → _≡_ {A = ℕ} (getD (replicate n 0) k 0) 0
-zeros n k = go (decLt k n)
-  where
-    go : Dec (k < n) → _≡_ {A = ℕ} (getD (replicate n 0) k 0) 0
-    go (yes l) = getD-replicate n k 0 0 l
-    go (no h) = List·getD-eq-default (replicate n 0) 0 {n = k} (omega (arith, length-replicate {A = ℕ} n 0))
-
-past-end : (b : List ℕ) (p : ℕ) → length b ≤ p → u32 b p ≡ 0
-unfolding u16 u32
-past-end b p l =
-    omega (arith, List·getD-eq-default b 0 {n = p} l, List·getD-eq-default b 0 {n = p + 1} (omega arith), List·getD-eq-default b 0 {n = p + 2} (omega arith), List·getD-eq-default b 0 {n = p + 2 + 1} (omega arith))
-
-module _ (m g : List ℕ) (rows : RowsRight (modelOf m) g) where
-  ends-by : (k : ℕ) → nodeCount (modelOf m) g ≤ k → length (body g 0) ≤ nodeSize (variableCount m) * k
-  unfolding countOf
-  ends-by k l =
-      omega (arith, div-add-mod (length (body g 0)) (nodeSize (variableCount m)), rows .folder .whole, mul-le-mul-left {m = length (body g 0) / nodeSize (variableCount m)} {n = k} (nodeSize (variableCount m)) l)
-
-  past-last : (k : ℕ) → nodeCount (modelOf m) g ≤ k → simulationOf (modelOf m) g .value k ≡ 0
-  unfolding field4
-  past-last k l = past-end (body g 0) (nodeSize (variableCount m) * k + 2 * 2) (omega (arith, ends-by k l))
-
-  module _ (size : ℕ) {row : List ℕ} (e : row ≡ fill (nodeCount (modelOf m) g) (simulationOf (modelOf m) g .value) (replicate size 0)) where
-    value-there : (k : ℕ) → getD row k 0 ≡ simulationOf (modelOf m) g .value k
-    value-there k = ap (λ (r : List ℕ). getD r k 0) e ∙ go (decLt k (nodeCount (modelOf m) g))
-      where
-        go : Dec (k < nodeCount (modelOf m) g) → getD (fill (nodeCount (modelOf m) g) (simulationOf (modelOf m) g .value) (replicate size 0)) k 0 ≡ simulationOf (modelOf m) g .value k
-        go (yes l) = getD-filled 0 (nodeCount (modelOf m) g) (simulationOf (modelOf m) g .value) (replicate size 0) k l
-        go (no h) =
-            let l : nodeCount (modelOf m) g ≤ k = omega arith in
-            getD-kept 0 (nodeCount (modelOf m) g) (simulationOf (modelOf m) g .value) (replicate size 0) k l ∙ zeros size k ∙ sym (past-last k l)
-
-    pub values-there : (λ (k : ℕ). getD row k 0) ≡ simulationOf (modelOf m) g .value
-    values-there = λ t k. value-there k t
+-- The row of values: past the last node it has 0, as the folder has.
+pub values-there : (m g : List ℕ) → RowsRight (modelOf m) g → (size : ℕ) {row : List ℕ}
+    → row ≡ fill (nodeCount (modelOf m) g) (simulationOf (modelOf m) g .value) (replicate size 0) → (λ (k : ℕ). getD row k 0) ≡ simulationOf (modelOf m) g .value
+values-there m g rows size e = λ t k. (ap (λ (r : List ℕ). getD r k 0) e ∙ getD-everywhere 0 (nodeCount (modelOf m) g) size (simulationOf (modelOf m) g .value)
+    (λ i l. field4-past (nodeSize (variableCount m)) (body g 0) i 2 (rows .folder .whole) l) k) t
 
 -- The tables as they are filled.
 pub ready-of : {m g values weights firsts : List ℕ} → Valid m → (rows : RowsRight (modelOf m) g) → Tables (modelOf m) weights firsts

@@ -1,4 +1,3 @@
 pub mod RangeLaws
 pub mod RowLaws
 mod FillLaws
-mod Calls

@@ -2,12 +2,13 @@
 -- be asked for.
 -- Assumes nothing.
 use Prim.Native.Nat.{ℕ, _<_, _≤_}
-use mathlib.Core.Path.{_≡_, ap₂}
+use mathlib.Core.Path.{_≡_, sym, ap₂}
 use mathlib.Core.List.{List}
+use native.Mathlib.Nat.{le-refl}
 use lib.ListN.{length}
 use lib.IntN.{ℤ, pos}
 use Rattle.folder.specs.Scan.{firstBad}
-use Rattle.folder.proofs.ScanLaws.{found}
+use Rattle.folder.proofs.ScanLaws.{all-passed}
 use Rattle.folder.proofs.FillLaws.{length-fill, getD-filled}
 use Rattle.expressions.specs.Entries.{entriesOf}
 use Rattle.expressions.specs.Ranges.{span, boundIn, limits}
@@ -26,4 +27,4 @@ settled x y n lows highs lows₀ highs₀ p q h l = record {
 
 -- Where none of the first n ranges leaves the limits.
 pub inside-below : (x y : List ℕ) (n : ℕ) → firstBad (rangeFits (entriesOf x) (boundIn y)) n ≡ n → (i : ℕ) → i < n → Inside (rangeIn x y i) limits
-inside-below x y n h i l = range-decided (entriesOf x) (boundIn y) i .yes (found (rangeFits (entriesOf x) (boundIn y)) n .before i (rw h l))
+inside-below x y n h i l = range-decided (entriesOf x) (boundIn y) i .yes (all-passed (rangeFits (entriesOf x) (boundIn y)) n (sym h) (le-refl n) i l)

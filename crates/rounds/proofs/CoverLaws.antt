@@ -5,21 +5,20 @@ use Prim.Native.Nat.{ℕ, _<_}
 use native.Mathlib.Decide.{ℕ-discrete, decLt}
 use native.Mathlib.Omega.{arith}
 use mathlib.Core.Path.{_≡_, refl, sym, ap, _∙_}
-use mathlib.Core.List.{List, _++_}
+use mathlib.Core.List.{List}
 use borrow.Author.Tests.{eq-eqb, ne-eqb}
 use lib.Dec.{eqb}
 use lib.ListN.{getD}
 use Rattle.mdp.specs.Graph.{round}
 use Rattle.folder.specs.Pick.{pick}
 use Rattle.folder.specs.Contents.{body, field}
-use Rattle.folder.proofs.TabLaws.{tab-same}
 use Rattle.model.specs.Layout.{variableCount}
 use Rattle.model.specs.Model.{Model, modelOf}
 use Rattle.graph.specs.Simulation.{nodeSize, Simulation, simulationOf}
 use Rattle.graph.specs.Valid.{Valid}
 use Rattle.rounds.specs.Rounds.{source, ownStart, ownNext, nextRound, nodesOf, ownStartRow, ownNextRow, coverRow, startRow, nextRow}
 use Rattle.folder.specs.Tab.{fill}
-use Rattle.folder.proofs.FillLaws.{getD-filled, getD-kept, drop-filled}
+use Rattle.folder.proofs.FillLaws.{getD-filled, getD-kept, fill-same, fill-again}
 use Rattle.rounds.proofs.RoundLaws.{shared-source}
 
 module _ {m g : List ℕ} (A : Valid m g) where
@@ -62,7 +61,7 @@ module _ {m g : List ℕ} (A : Valid m g) where
   -- Both passes: each node holds what its source held of its own.
   both : (own f : ℕ → ℕ) (d : List ℕ) → ((n : ℕ) → f n ≡ own (source G n)) → coverRow m g (fill (nodesOf m g) own d) ≡ fill (nodesOf m g) f d
   both own f d e =
-      λ i. tab-same (nodesOf m g) _ f (λ n l. getD-filled 0 (nodesOf m g) own d (source G n) (source-in n l) ∙ sym (e n)) i ++ drop-filled (nodesOf m g) own d i
+      fill-same (nodesOf m g) _ f _ (λ n l. getD-filled 0 (nodesOf m g) own d (source G n) (source-in n l) ∙ sym (e n)) ∙ fill-again (nodesOf m g) own f d
 
   pub start-both : (d : List ℕ) → coverRow m g (ownStartRow m g d) ≡ startRow m g d
   unfolding ownStart round

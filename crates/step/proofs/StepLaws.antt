@@ -16,9 +16,10 @@ use Rattle.folder.specs.declared.Refusal.{Refusal}
 use Rattle.folder.specs.declared.Outcome.{Outcome}
 use Rattle.folder.specs.declared.Outcome.the-variants.{Accepted, Refused}
 use Rattle.folder.proofs.Decides.{at-mostZ, _∧also_}
-use Rattle.folder.proofs.ScanLaws.{found}
+use Rattle.folder.proofs.ScanLaws.{all-passed}
 use Rattle.folder.proofs.TableLaws.{accepted-then, refused-then}
-use Rattle.folder.proofs.TabLaws.{getD-tab, tab-same}
+use Rattle.folder.proofs.TabLaws.{getD-tab}
+use Rattle.folder.proofs.FillLaws.{fill-same}
 use Rattle.whole.proofs.Order.{to-⊑, ⊑-trans, within}
 use Rattle.expressions.specs.Limits.{allTracked}
 use Rattle.expressions.specs.Entries.{entriesOf}
@@ -74,7 +75,7 @@ module _ (m : List ℕ) (s : State) {y : List ℕ} (q : y ≡ body m 1) (n : ℕ
   in-range k l h = record { long = l ∙ k; low = λ v g. both v g .0; high = λ v g. both v g .1 }
     where
       both : (v : ℕ) → v < variableCount m → (modelOf m .low v ≤ℤ valueOf s v) × (valueOf s v ≤ℤ modelOf m .high v)
-      both v g = (at-mostZ (modelOf m .low v) (valueOf s v) ∧also at-mostZ (valueOf s v) (modelOf m .high v)) .yes (rw q at (found (fitsIn y s) n .before v (omega arith)))
+      both v g = (at-mostZ (modelOf m .low v) (valueOf s v) ∧also at-mostZ (valueOf s v) (modelOf m .high v)) .yes (rw q at (all-passed (fitsIn y s) n e h v (omega arith)))
 
 -- ---- rows 31 to 33, from a state in range of a valid model
 module _ {m : List ℕ} (valid : Valid m) {s : State} (h : InRange (modelOf m) s) where
@@ -159,4 +160,4 @@ module _ {x b : List ℕ} {size r : ℕ} {s : State} (h : Stepping x b size r s)
   }
 
   pub values-next : (result : List ℤ) {out : List ℤ} → out ≡ fill (length s) (valueIn values b size r) result → out ≡ fill (length s) (assignedIn x b size r s) result
-  values-next result q = q ∙ ap (λ (z : List ℤ). z ++ drop (length s) result) (tab-same (length s) _ _ value-is)
+  values-next result q = q ∙ fill-same (length s) _ _ result value-is

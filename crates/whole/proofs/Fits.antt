@@ -1,5 +1,6 @@
 -- Sums, differences and products of numbers at most `farthest` from 0 fit 64 bits.
 -- Assumes nothing.
+use mathlib.Core.Path.{_≡_}
 use mathlib.Core.Bool.{Bool, true, false, cond}
 use Prim.Native.Nat.{ℕ, zero, suc, _+_, _-_, _*_, _≤_, zero-le}
 use native.Mathlib.Nat.{le-refl, le-trans, le-suc, mul-le-mul, lt-of-le-of-lt}
@@ -8,7 +9,8 @@ use lib.Dec.{ltb, lit<}
 use lib.IntN.{ℤ, pos, negsuc, negℤ, subℕ, _+ℤ_, _-ℤ_, _*ℤ_}
 use lib.Signed.{mag}
 use mir.Syntax.{w64}
-use mir.Val.{SFits}
+use mir.Val.{SFits, toZ, ofZ}
+use Rattle.folder.proofs.Signed.{back}
 use Rattle.whole.specs.Limits.{farthest}
 
 mag-cond : (t : Bool) (m n k : ℕ) → m ≤ k → n ≤ k → mag (cond t (negsuc m) (pos n)) ≤ k
@@ -39,11 +41,24 @@ mag-mul (pos a) (negsuc b) = le-trans (mag-neg-pos (a * suc b)) (mul-le-mul (le-
 mag-mul (negsuc a) (pos b) = le-trans (mag-neg-pos (suc a * b)) (mul-le-mul (le-refl (suc a)) (le-suc b))
 mag-mul (negsuc a) (negsuc b) = le-refl (suc a * suc b)
 
-pub add-fits : (a b : ℤ) → mag a ≤ farthest → mag b ≤ farthest → SFits w64 (a +ℤ b)
+add-fits : (a b : ℤ) → mag a ≤ farthest → mag b ≤ farthest → SFits w64 (a +ℤ b)
 add-fits a b h l = record { sfits = omega (arith, mag-add a b) }
 
-pub sub-fits : (a b : ℤ) → mag a ≤ farthest → mag b ≤ farthest → SFits w64 (a -ℤ b)
+sub-fits : (a b : ℤ) → mag a ≤ farthest → mag b ≤ farthest → SFits w64 (a -ℤ b)
 sub-fits a b h l = record { sfits = omega (arith, mag-add a (negℤ b), mag-negℤ b) }
 
-pub mul-fits : (a b : ℤ) → mag a ≤ farthest → mag b ≤ farthest → SFits w64 (a *ℤ b)
+mul-fits : (a b : ℤ) → mag a ≤ farthest → mag b ≤ farthest → SFits w64 (a *ℤ b)
 mul-fits a b h l = record { sfits = lt-of-le-of-lt (le-trans (mag-mul a b) (mul-le-mul {n₂ = suc farthest} {m₂ = suc farthest} (omega arith) (omega arith))) (lit< tt) }
+
+-- The same of arguments that are read back from their bits.
+small-back : (z : ℤ) → mag z ≤ farthest → toZ w64 (ofZ w64 z) ≡ z
+small-back z h = back (omega arith)
+
+pub add-near : (a b : ℤ) → mag a ≤ farthest → mag b ≤ farthest → SFits w64 (toZ w64 (ofZ w64 a) +ℤ toZ w64 (ofZ w64 b))
+add-near a b h l = rw (small-back a h, small-back b l) (add-fits a b h l)
+
+pub sub-near : (a b : ℤ) → mag a ≤ farthest → mag b ≤ farthest → SFits w64 (toZ w64 (ofZ w64 a) -ℤ toZ w64 (ofZ w64 b))
+sub-near a b h l = rw (small-back a h, small-back b l) (sub-fits a b h l)
+
+pub mul-near : (a b : ℤ) → mag a ≤ farthest → mag b ≤ farthest → SFits w64 (toZ w64 (ofZ w64 a) *ℤ toZ w64 (ofZ w64 b))
+mul-near a b h l = rw (small-back a h, small-back b l) (mul-fits a b h l)

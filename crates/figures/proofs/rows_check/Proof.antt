@@ -11,7 +11,7 @@ use Rattle.folder.proofs.TableLaws.{Rest, no-row, row-holds, refuses, all-rows}
 use Rattle.model.specs.Model.{modelOf}
 use Rattle.graph.specs.Simulation.{simulationOf}
 use Rattle.graph.specs.Figures.{figureRows}
-use Rattle.graph.proofs.RowLaws.{test-refuses, test-holds}
+use Rattle.folder.proofs.TableLaws.{test-refuses, test-holds}
 use Rattle.figures.proofs.CallLaws.{first-short, second-short, both-long}
 use Rattle.figures.proofs.rows_check.Statement.{statement}
 use Rattle.figures.proofs.rows_check.Tie as tie

@@ -8,7 +8,7 @@ use Rattle.folder.specs.Table.{Row}
 use Rattle.folder.proofs.TableLaws.{Rest, no-row, row-holds, refuses, all-rows}
 use Rattle.model.specs.Model.{modelOf}
 use Rattle.graph.specs.Table.{firstRows}
-use Rattle.graph.proofs.RowLaws.{test-refuses, test-holds}
+use Rattle.folder.proofs.TableLaws.{test-refuses, test-holds}
 use Rattle.graph.proofs.check_contents.Statement.{statement}
 use Rattle.graph.proofs.check_contents.Tie as tie
 

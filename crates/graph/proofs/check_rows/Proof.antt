@@ -10,7 +10,7 @@ use Rattle.model.specs.Model.{modelOf}
 use Rattle.graph.specs.Rules.{nodesFit}
 use Rattle.graph.specs.Table.{firstRows}
 use Rattle.graph.proofs.Decided.{bytes-decided, nodes-decided}
-use Rattle.graph.proofs.RowLaws.{test-refuses, test-holds}
+use Rattle.folder.proofs.TableLaws.{test-refuses, test-holds}
 use Rattle.graph.proofs.check_rows.Statement.{statement}
 use Rattle.graph.proofs.check_rows.Tie as tie
 

@@ -11,7 +11,7 @@ use Rattle.graph.specs.Simulation.{nodeCount, simulationOf}
 use Rattle.graph.specs.Table.{nodeRules}
 use Rattle.graph.specs.Walks.{startsAt}
 use Rattle.graph.proofs.EdgePlaces.{place-none}
-use Rattle.nodes.proofs.RuleLaws.{all-kept, one-broken}
+use Rattle.folder.proofs.RuleLaws.{all-kept, one-broken}
 use Rattle.nodes.proofs.NodeLaws.{node-of, node-numbered}
 use Rattle.nodes.proofs.all_nodes.Statement.{statement}
 use Rattle.nodes.proofs.all_nodes.Tie as tie

@@ -10,7 +10,7 @@ use Rattle.model.specs.Model.{modelOf}
 use Rattle.graph.specs.Simulation.{simulationOf}
 use Rattle.graph.specs.Rules.{valueRule}
 use Rattle.nodes.specs.Ready.{coverRules}
-use Rattle.nodes.proofs.RuleLaws.{Left, no-rule, rule-breaks, rule-holds, rules-over}
+use Rattle.folder.proofs.RuleLaws.{Left, no-rule, rule-breaks, rule-holds, rules-over}
 use Rattle.nodes.proofs.NodeLaws.{few-enough, value-ready}
 use Rattle.nodes.proofs.cover_rules.Statement.{statement}
 use Rattle.nodes.proofs.cover_rules.Tie as tie

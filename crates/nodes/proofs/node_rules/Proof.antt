@@ -11,7 +11,7 @@ use Rattle.model.specs.Model.{modelOf}
 use Rattle.graph.specs.Simulation.{simulationOf}
 use Rattle.graph.specs.Table.{nodeRules}
 use Rattle.nodes.specs.Ready.{coverRules}
-use Rattle.nodes.proofs.RuleLaws.{Left, no-rule, rule-breaks, rule-holds, first-rules, then-rules}
+use Rattle.folder.proofs.RuleLaws.{Left, no-rule, rule-breaks, rule-holds, first-rules, then-rules}
 use Rattle.nodes.proofs.NodeLaws.{few-enough, firsts-of, reading-numbered}
 use Rattle.nodes.proofs.node_rules.Statement.{statement}
 use Rattle.nodes.proofs.node_rules.Tie as tie

@@ -6,7 +6,7 @@ use denote.Ref.{now}
 use lib.ListN.{drop}
 use Rattle.folder.specs.Table.{Rule}
 use Rattle.nodes.specs.Ready.{readingRules}
-use Rattle.nodes.proofs.RuleLaws.{Left, no-rule, rule-breaks, rule-holds, rules-over}
+use Rattle.folder.proofs.RuleLaws.{Left, no-rule, rule-breaks, rule-holds, rules-over}
 use Rattle.nodes.proofs.settled_rules.Statement.{statement}
 use Rattle.nodes.proofs.settled_rules.Tie as tie
 

@@ -2,7 +2,8 @@ use mathlib.Core.Path.{_∙_, ap₂}
 use lib.IntN.{_+ℤ_, _-ℤ_}
 use Rattle.whole.specs.Order.{minZ, maxZ}
 use Rattle.folder.proofs.Signed.{back-fits}
-use Rattle.ranges.proofs.Calls.{called, add-near, sub-near}
+use Rattle.folder.proofs.Signed.{called}
+use Rattle.whole.proofs.Fits.{add-near, sub-near}
 use Rattle.expressions.specs.Ranges.{span, product}
 use borrow.Author.Needs.{needs}
 use Rattle.ranges.proofs.ends.Statement.{statement}

@@ -1,6 +1,6 @@
 use mathlib.Core.Path.{_∙_, ap₂}
 use Rattle.folder.proofs.Signed.{back}
-use Rattle.ranges.proofs.Calls.{called}
+use Rattle.folder.proofs.Signed.{called}
 use Rattle.whole.specs.Order.{maxZ}
 use borrow.Author.Needs.{needs}
 use Rattle.ranges.proofs.largest.Statement.{statement}

@@ -2,7 +2,8 @@ use mathlib.Core.Path.{_∙_, ap₂}
 use lib.IntN.{_*ℤ_}
 use Rattle.whole.specs.Order.{minZ, maxZ}
 use Rattle.folder.proofs.Signed.{back}
-use Rattle.ranges.proofs.Calls.{called, mul-near}
+use Rattle.folder.proofs.Signed.{called}
+use Rattle.whole.proofs.Fits.{mul-near}
 use Rattle.expressions.specs.Ranges.{span}
 use borrow.Author.Needs.{needs}
 use Rattle.ranges.proofs.product_range.Statement.{statement}

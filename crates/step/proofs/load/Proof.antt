@@ -1,11 +1,11 @@
 use Prim.Native.Nat.{_-_}
 use mathlib.Core.Path.{_∙_}
+use lib.IntN.{pos}
 use native.Mathlib.Omega.{arith}
 use borrow.Author.Needs.{needs}
-use Rattle.folder.proofs.FillLaws.{Filled, fill-start, fill-next}
+use Rattle.folder.proofs.FillLaws.{Filled, fill-start, fill-next, fill-list}
 use Rattle.folder.proofs.Signed.{back}
 use Rattle.expressions.specs.Meaning.{valueOf}
-use Rattle.step.proofs.FillLaws.{state-filled}
 use Rattle.step.proofs.load.Statement.{statement}
 use Rattle.step.proofs.load.Tie as tie
 
@@ -32,4 +32,4 @@ load-spec =
     (λ c. search needs)
     loop-again
     (λ c. c .before .loop .inv .long)
-    (λ c. state-filled (c .before .before .args .state .now) (c .before .loop .inv) (c .loop-test .left)))
+    (λ c. fill-list (pos 0) (c .before .before .args .state .now) (c .before .loop .inv) (c .loop-test .left)))
