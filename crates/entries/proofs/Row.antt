@@ -1,18 +1,16 @@
 -- Row 5's test of an entry from the depths of the entries before it, and the row of depths as it is filled.
 -- Assumes nothing.
 use Prim.Native.Nat.{ℕ, _+_, _<_, _≤_, max}
-use mathlib.Core.Path.{_≡_, refl, sym, ap₂, _∙_}
+use mathlib.Core.Path.{_≡_, refl, sym, ap, ap₂, _∙_}
 use mathlib.Core.Bool.{Bool, true, false, _&&_}
 use mathlib.Core.List.{List}
-use mathlib.Core.Logic.{⊎-elim}
-use native.Mathlib.Nat.{eq-or-lt-of-le, not-suc-le-zero}
 use native.Mathlib.Omega.{arith}
 use borrow.Author.Tests.{leb-true}
 use lib.Dec.{leb}
 use lib.ListN.{length, getD, set, replicate, length-replicate, length-set}
-use lib.Seq.{getD-set-same, getD-set-other}
 use Rattle.folder.specs.Scan.{firstBad}
 use Rattle.folder.proofs.Decides.{and-both}
+use Rattle.folder.proofs.FillLaws.{Filled, fill-start as row-start, fill-next as row-next, getD-filled}
 use Rattle.folder.proofs.ScanLaws.{Scanned, scan-start, scan-next, scan-found}
 use Rattle.expressions.specs.Limits.{mostExpressions}
 use Rattle.expressions.specs.Entries.{Entries, numberForm, truthForm}
@@ -51,25 +49,28 @@ module _ (x : Entries) (variables i : ℕ) (right : (e : ℕ) → e < i → Entr
       go false f = refl
 
 -- The first i of n entries passed, and the row has their depths.
-pub record Filled (x : Entries) (variables n i : ℕ) (depths : List ℕ) : Type 0 where
+pub record Deep (x : Entries) (variables n i : ℕ) (depths : List ℕ) : Type 0 where
   pub scanned : Scanned (entryFits x variables) n i
   pub long : length depths ≡ mostExpressions
-  pub known : (p : ℕ) → p < i → getD depths p 0 ≡ depthOf x p
+  pub row : Filled (depthOf x) n (replicate mostExpressions 0) depths i
 
-pub fill-start : (x : Entries) (variables n : ℕ) → Filled x variables n 0 (replicate mostExpressions 0)
+pub fill-start : (x : Entries) (variables n : ℕ) → Deep x variables n 0 (replicate mostExpressions 0)
 fill-start x variables n = record {
   scanned = scan-start (entryFits x variables) n;
   long = length-replicate {A = ℕ} mostExpressions 0;
-  known = λ p l. absurd (not-suc-le-zero l);
+  row = row-start _ n _;
 }
 
 -- f and d are what the code finds of entry i: whether its form is right, and its depth by the row.
-module _ {x : Entries} {variables n i : ℕ} {depths : List ℕ} (h : Filled x variables n i depths) (l : i < n) {f : Bool} {d : ℕ} (form : f ≡ formFits x variables i) (by : d ≡ depthBy x (λ p. getD depths p 0) i) where
+module _ {x : Entries} {variables n i : ℕ} {depths : List ℕ} (h : Deep x variables n i depths) (l : i < n) {f : Bool} {d : ℕ} (form : f ≡ formFits x variables i) (by : d ≡ depthBy x (λ p. getD depths p 0) i) where
   right : (e : ℕ) → e < i → EntryRight x variables e
   right = all-right x variables i (h .scanned .passed)
 
+  known : (p : ℕ) → p < i → getD depths p 0 ≡ depthOf x p
+  known p l = ap (λ (r : List ℕ). getD r p 0) (h .row .is) ∙ getD-filled 0 i (depthOf x) (replicate mostExpressions 0) p l
+
   tested : (f && leb d deepest) ≡ entryFits x variables i
-  tested = rw (form, by) (fits-by x variables i right (λ p. getD depths p 0) (h .known))
+  tested = rw (form, by) (fits-by x variables i right (λ p. getD depths p 0) known)
 
   pub fill-found : (f && leb d deepest) ≡ false → i ≡ firstBad (entryFits x variables) n
   fill-found = scan-found (h .scanned) l tested
@@ -81,14 +82,11 @@ module _ {x : Entries} {variables n i : ℕ} {depths : List ℕ} (h : Filled x v
     depth-found : d ≡ depthOf x i
     unfolding formFits
     depth-found =
-        by ∙ depth-is x variables i right (λ p. getD depths p 0) (h .known) (form-decided x variables i .yes (sym form ∙ and-both f (leb d deepest) passed .0))
+        by ∙ depth-is x variables i right (λ p. getD depths p 0) known (form-decided x variables i .yes (sym form ∙ and-both f (leb d deepest) passed .0))
 
-    pub fill-next : n ≤ mostExpressions → Filled x variables n (i + 1) (set depths i d)
+    pub fill-next : n ≤ mostExpressions → Deep x variables n (i + 1) (set depths i d)
     fill-next m = record {
       scanned = scan-next (h .scanned) l tested passed;
       long = length-set depths i d ∙ h .long;
-      known = λ p k. ⊎-elim
-          (λ e. rw e (getD-set-same depths i d 0 (omega (arith, h .long)) ∙ depth-found))
-          (λ b. getD-set-other depths i p d 0 (λ e. omega arith) ∙ h .known p b)
-          (eq-or-lt-of-le (omega arith));
+      row = row-next (h .row) l (omega (arith, length-replicate {A = ℕ} mostExpressions 0)) depth-found;
     }

@@ -11,9 +11,7 @@ use borrow.Author.Tests.{le-ltb}
 use lib.ListN.{getD}
 use lib.IntN.{ℤ, pos}
 use Rattle.folder.specs.Pick.{pick}
-use Rattle.folder.specs.Scan.{firstBad}
-use Rattle.folder.proofs.Decides.{everywhere, passes}
-use Rattle.expressions.specs.Limits.{mostVariables, allTracked}
+use Rattle.expressions.specs.Limits.{allTracked}
 use Rattle.expressions.specs.Entries.{Entries, numberForm, truthForm}
 use Rattle.expressions.specs.Levels.{numberAt, truthAt}
 use Rattle.expressions.specs.Meaning.{State, valueOf, numberIn, truthIn}
@@ -26,6 +24,7 @@ use Rattle.expressions.specs.declared.Number.{Number}
 use Rattle.expressions.specs.declared.Number.the-variants.{Known, Unknown as Open}
 use Rattle.expressions.specs.declared.Truth.the-variants.{Unknown}
 use Rattle.expressions.specs.declared.Range.{Range}
+use Rattle.expressions.proofs.Bits.{each-tracked}
 use Rattle.expressions.proofs.Interval.{In}
 use Rattle.expressions.proofs.Levels.{lower, truth-deep}
 use Rattle.expressions.proofs.Small.{InN, in-range-at, small}
@@ -87,10 +86,6 @@ module _ (x : Entries) (t : ℕ) (v : List ℤ) (ready : Ready x t v) where
   truth-enough e = let f = ready .formed in truth-deep (reading (lookIn t v)) x (parts-lower x _ _ f) deepest e (shallow x _ _ f e)
 
 -- ---- a state
-each-tracked : (i : ℕ) → i < mostVariables → hasBit allTracked i ≡ true
-unfolding firstBad hasBit
-each-tracked = everywhere mostVariables (λ i l. passes (hasBit allTracked i)) .yes refl
-
 module _ (x : Entries) (s : State) (grounded : Grounded x s) where
   pub ready : Ready x allTracked s
   ready = record {

@@ -18,13 +18,12 @@ use Rattle.model.specs.Limits.{mostExpressions}
 use Rattle.model.specs.Layout.{variableCount, branchSize}
 use Rattle.model.specs.Model.{Model, modelOf, firstRecord}
 use Rattle.model.proofs.Chances.{record-there}
-use Rattle.model.proofs.Limits.{limits}
+use Rattle.model.proofs.Limits.{limits, records-small}
 use Rattle.graph.specs.Simulation.{Simulation, nodeSize, edgeSize, edgeAt, nodeField, simulationOf}
 use Rattle.graph.specs.Rules.{resultIs, labelFollows, follows, edgeFollows}
 use Rattle.graph.proofs.EdgePlaces.{place-next}
 use Rattle.expand.specs.Node.{NodeOf, LabelSettled, StateSettled, FirstsOf}
 use Rattle.expand.specs.Tests.{readsAt, Leads, AllLead, variableFollows, branchFollows, branchesFollow}
-use Rattle.expand.proofs.Sizes.{records-small}
 use Rattle.expand.proofs.Readings.{reads-is}
 
 -- ---- the code's test of a variable, by its parts

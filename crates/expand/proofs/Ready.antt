@@ -1,6 +1,6 @@
 -- What `settle` asks of a node's label, where A1 holds, and of its concrete state; and what its rows are then.
 -- Assumes nothing.
-use Prim.Native.Nat.{ℕ, _+_, _<_}
+use Prim.Native.Nat.{ℕ, _+_}
 use mathlib.Core.Path.{_≡_, sym, _∙_}
 use mathlib.Core.Bool.{true}
 use mathlib.Core.List.{List, _++_}
@@ -9,7 +9,7 @@ use lib.IntN.{ℤ, pos}
 use Rattle.folder.specs.Contents.{body, countOf, signedField}
 use Rattle.folder.specs.Tab.{tab}
 use Rattle.folder.proofs.Decides.{passes, everywhere, whenever}
-use Rattle.folder.proofs.TabLaws.{length-tab, getD-tab}
+use Rattle.folder.proofs.TabLaws.{getD-tab}
 use Rattle.folder.proofs.FillLaws.{take-filled}
 use Rattle.whole.proofs.Order.{equal-decided}
 use Rattle.expressions.specs.Limits.{allTracked}
@@ -19,7 +19,6 @@ use Rattle.expressions.specs.Reading.{lookIn}
 use Rattle.expressions.proofs.Interval.{In}
 use Rattle.evaluate.specs.Formed.{Formed, Ready, Grounded}
 use Rattle.evaluate.specs.Settled.{Settled}
-use Rattle.expressions.proofs.Bits.{bit-below}
 use Rattle.evaluate.proofs.Readable.{ready}
 use Rattle.evaluate.proofs.Rows.{state-row}
 use Rattle.model.specs.Layout.{variableCount}
@@ -29,6 +28,7 @@ use Rattle.model.proofs.Limits.{limits}
 use Rattle.graph.specs.Simulation.{Simulation, nodeSize, simulationOf}
 use Rattle.graph.specs.Labels.{tracks, concreteState}
 use Rattle.graph.specs.Rules.{A1}
+use Rattle.graph.proofs.Labelled.{tracked-there, concrete-in-range}
 use Rattle.expand.specs.Node.{NodeOf, StateSettled}
 
 -- The same body, set and values by other names.
@@ -59,11 +59,7 @@ module _ {m g : List ℕ} {n : ℕ} (node : NodeOf m g n) where
   formed = record { right = node .model .model .entries; ranges = node .model .model .ranges }
 
   inside : (i : ℕ) → In (bound M i) (valueOf (concreteState M G n) i)
-  inside = in-bounds M (concreteState M G n) (record {
-    long = length-tab (M .variables) (G .concrete n);
-    low = λ v l. rw (getD-tab (pos 0) (M .variables) (G .concrete n) v l) (node .rows .content .nodes n (node .there) .low v l);
-    high = λ v l. rw (getD-tab (pos 0) (M .variables) (G .concrete n) v l) (node .rows .content .nodes n (node .there) .high v l);
-  })
+  inside = in-bounds M (concreteState M G n) (concrete-in-range M G n (node .rows .content .nodes n (node .there)))
 
   pub state-grounded : Grounded (M .entries) (concreteState M G n)
   state-grounded = record {
@@ -83,13 +79,10 @@ module _ {m g : List ℕ} {n : ℕ} (node : NodeOf m g n) where
   state-settled {known} {values} s = state-row (M .entries) (concreteState M G n) state-grounded known values s
 
   -- ---- the label: where A1 holds, its tracked values are the state's
-  tracked-there : (i : ℕ) → tracks G n i ≡ true → i < M .variables
-  tracked-there i t = bit-below (G .tracked n) (M .variables) i (node .rows .content .nodes n (node .there) .bits) t
-
   agrees : A1 M G n ≡ true → (i : ℕ) → tracks G n i ≡ true → valueOf (tab (M .variables) (G .label n)) i ≡ valueOf (concreteState M G n) i
   unfolding A1
   agrees h i t =
-      let l = tracked-there i t in
+      let l = tracked-there M G n (node .rows .content .nodes n (node .there)) i t in
       getD-tab (pos 0) (M .variables) (G .label n) i l
       ∙ everywhere (M .variables) (λ v k. whenever (passes (tracks G n v)) (equal-decided (G .label n v) (G .concrete n v))) .yes h i l t
       ∙ sym (getD-tab (pos 0) (M .variables) (G .concrete n) i l)

@@ -1,14 +1,10 @@
--- What an accepted model and rows 12 to 17 give of sizes: cursors on edges, and numbers of branch records.
+-- What rows 12 to 17 give of sizes: cursors on edges.
 -- Assumes nothing.
-use Prim.Native.Nat.{ℕ, _+_, _<_, _≤_}
+use Prim.Native.Nat.{ℕ, _≤_}
 use native.Mathlib.Omega.{arith}
 use mathlib.Core.Path.{_≡_}
 use mathlib.Core.List.{List}
-use Rattle.mdp.proofs.SumLaws.{sum-more}
-use Rattle.model.specs.Limits.{mostRecords}
-use Rattle.model.specs.Model.{modelOf, firstRecord}
-use Rattle.model.specs.Valid.{Valid}
-use Rattle.model.proofs.Limits.{limits}
+use Rattle.model.specs.Model.{modelOf}
 use Rattle.graph.specs.Limits.{mostBytes}
 use Rattle.graph.specs.Simulation.{edgeAt, nodeField}
 use Rattle.graph.proofs.EdgePlaces.{place-within, edges-short}
@@ -18,7 +14,3 @@ use Rattle.expand.specs.Node.{NodeOf}
 pub cursor-small : {m g : List ℕ} {n : ℕ} → NodeOf m g n → (e : ℕ) {edges p : ℕ} → edges ≡ nodeField (modelOf m) g n 4 → e ≤ edges → p ≡ edgeAt (modelOf m) g n e → p ≤ mostBytes
 cursor-small {m} {g} {n} node e q l s =
     omega (arith, place-within (node .rows) n e (node .there) (omega arith), edges-short (node .rows))
-
--- A command's branch records are among the records, of which there are few.
-pub records-small : {m : List ℕ} → Valid m → (c : ℕ) → c < modelOf m .commands → firstRecord (modelOf m) c + modelOf m .branches c ≤ mostRecords
-records-small {m} valid c l = omega (arith, limits (valid .folder) .records, valid .model .records, sum-more (modelOf m .commands) (modelOf m .branches) c l)

@@ -3,16 +3,12 @@
 use Prim.Native.Nat.{ℕ, _<_}
 use mathlib.Core.Path.{_≡_, refl, subst}
 use mathlib.Core.Logic.{_≢_}
-use mathlib.Core.List.{List, []}
+use mathlib.Core.List.{List}
 use native.Mathlib.Omega.{arith}
-use borrow.Author.Tests.{eq-eqb}
-use lib.Dec.{eqb}
 use Rattle.mdp.specs.Kinds.{Kind}
 use Rattle.mdp.specs.Graph.{figure}
 use Rattle.mdp.specs.Demand.{Demand3}
-use Rattle.mdp.proofs.SumLaws.{sum-more}
 use Rattle.mdp.proofs.Demand.{demand}
-use Rattle.folder.specs.Pick.{pick}
 use Rattle.folder.specs.declared.Outcome.{Outcome}
 use Rattle.folder.specs.declared.Outcome.the-variants as O
 use Rattle.folder.proofs.TabLaws.{length-tab, getD-tab}
@@ -22,12 +18,13 @@ use Rattle.model.proofs.Chances.{fair}
 use Rattle.graph.specs.Limits.{units}
 use Rattle.graph.specs.Simulation.{Simulation, simulationOf, graph}
 use Rattle.graph.specs.Labels.{Contains, concreteState}
-use Rattle.graph.specs.Table.{graphOutcome, kindCount, summary, answerOf, graphAnswer}
+use Rattle.graph.specs.Table.{graphOutcome, summary, answerOf, graphAnswer}
 use Rattle.graph.specs.Figures.{figures, figureOutcome, figurePart}
 use Rattle.graph.specs.Valid.{Valid}
 use Rattle.graph.specs.Demand.{Bounds, PartFits, Demand}
 use Rattle.graph.specs.declared.Summary.{Summary}
 use Rattle.graph.specs.declared.GraphAnswer.the-variants.{Accepted, Refused}
+use Rattle.graph.proofs.CountLaws.{none-of-kind}
 use Rattle.graph.proofs.Decided.{accepted-valid, figure-valid}
 use Rattle.graph.proofs.Labelled.{kind-is, labelled, valued, own, root-contains}
 
@@ -49,14 +46,9 @@ module _ (m g : List ℕ) (A : Valid m g) where
   none-waits h n l e = h n l (kind-is (G .kind n) (A .rows .content .nodes n l .kind) Kind.waiting e)
 
 -- ---- the graph check's answer
-answer-is : (o : Outcome) (t s : Summary) → answerOf o t ≡ Accepted s → (o ≡ O.Accepted) × (t ≡ s)
+pub answer-is : (o : Outcome) (t s : Summary) → answerOf o t ≡ Accepted s → (o ≡ O.Accepted) × (t ≡ s)
 answer-is O.Accepted t s e = (refl, cc)
 answer-is (O.Refused f) t s e = let z : _≡_ {A = ℕ} 0 1 = cc in absurd (omega arith)
-
-none-counted : (G : Simulation) → kindCount G 0 ≡ 0 → (n : ℕ) → n < G .nodes → G .kind n ≢ 0
-none-counted G e n l k =
-    let one : _≡_ {A = ℕ} (pick (eqb (G .kind n) 0) 1 0) 1 = rw (eq-eqb (G .kind n) 0 k) refl in
-    omega (arith, sum-more (G .nodes) (λ i. pick (eqb (G .kind i) 0) 1 0) n l)
 
 answer-bounds : (m g : List ℕ) (s : Summary) → graphAnswer m g ≡ Accepted s → Bounds m g s
 unfolding graphAnswer
@@ -65,7 +57,7 @@ answer-bounds m g s e =
     let A : Valid m g = accepted-valid m g .0 (a .0) in
     let d = valid-demand m g A in
     subst (λ (t : Summary). Bounds m g t) (a .1)
-    (record { root = d .bound; figures = λ w. d .figures (none-waits m g A (none-counted (simulationOf (modelOf m) g) w)) })
+    (record { root = d .bound; figures = λ w. d .figures (none-waits m g A (none-of-kind (simulationOf (modelOf m) g) 0 w)) })
 
 -- ---- the figure call's part
 part-fits : (m g : List ℕ) (h : ℕ) (first second : List ℕ) → figureOutcome m g h first second ≡ O.Accepted → PartFits m g h (figurePart m g h first second)

@@ -1,8 +1,7 @@
 -- What the rules give of a graph's labels and values, in the words of the theory of simulation graphs.
 -- Assumes nothing.
-use Prim.Native.Nat.{ℕ, zero, suc, _+_, _*_, _<_, _≤_}
+use Prim.Native.Nat.{ℕ, zero, suc, _+_, _<_, _≤_}
 use mathlib.Core.Path.{_≡_, refl, sym, ap, _∙_, subst}
-use mathlib.Core.Logic.{_≢_}
 use mathlib.Core.Bool.{Bool, true, false}
 use mathlib.Core.List.{List}
 use native.Mathlib.Nat.{not-suc-le-zero, le-of-suc-le-suc}
@@ -20,14 +19,14 @@ use Rattle.expressions.specs.declared.Number.the-variants.{Known, Unknown as Op
 use Rattle.expressions.proofs.Bits.{bit-below}
 use Rattle.expressions.proofs.Sound.{Says, SaysT, number-sound, truth-sound, known-is, true-is, false-is, is-true}
 use Rattle.model.specs.Model.{Model, firstRecord}
-use Rattle.model.specs.Chances.{mdp, next, initialState}
+use Rattle.model.specs.Chances.{InRange, mdp, next, initialState}
 use Rattle.model.specs.Valid.{ModelRight}
 use Rattle.model.proofs.Chances.{next-in-range}
 use Rattle.graph.specs.Limits.{units}
 use Rattle.graph.specs.Simulation.{Simulation, graph, kindOf}
 use Rattle.graph.specs.Labels.{tracks, look, concreteState, numberOf, truthOf, Contains}
 use Rattle.graph.specs.Rules.{enabledIn}
-use Rattle.graph.specs.Valid.{ContentRight, RulesRight}
+use Rattle.graph.specs.Valid.{NodeRight, ContentRight, RulesRight}
 use Rattle.graph.proofs.Decided.{true-decided}
 
 -- ---- kinds
@@ -61,10 +60,19 @@ kind-back third = refl
 pub kind-is : (k : ℕ) → k ≤ 3 → (κ : Kind) → kindOf k ≡ κ → k ≡ numberOfKind κ
 kind-is k h κ e = sym (kind-back (kind-number k h)) ∙ ap numberOfKind e
 
-module _ (M : Model) (R : ModelRight M) (G : Simulation) (K : ContentRight M G) (A : RulesRight M G) where
-  tracked-there : (n : ℕ) → n < G .nodes → (i : ℕ) → tracks G n i ≡ true → i < M .variables
-  tracked-there n l i t = bit-below (G .tracked n) (M .variables) i (K .nodes n l .bits) t
+-- A node that row 15 passes tracks variables of the model, and its concrete label is a state in range.
+module _ (M : Model) (G : Simulation) (n : ℕ) (N : NodeRight M G n) where
+  pub tracked-there : (i : ℕ) → tracks G n i ≡ true → i < M .variables
+  tracked-there i t = bit-below (G .tracked n) (M .variables) i (N .bits) t
 
+  pub concrete-in-range : InRange M (concreteState M G n)
+  concrete-in-range = record {
+    long = length-tab (M .variables) (G .concrete n);
+    low = λ v p. rw (getD-tab (pos 0) (M .variables) (G .concrete n) v p) (N .low v p);
+    high = λ v p. rw (getD-tab (pos 0) (M .variables) (G .concrete n) v p) (N .high v p);
+  }
+
+module _ (M : Model) (R : ModelRight M) (G : Simulation) (K : ContentRight M G) (A : RulesRight M G) where
   -- A label says of each variable nothing, or its value in every state that it contains.
   look-says : (n : ℕ) → n < G .nodes → (s : State) → Contains M G n s → (i : ℕ) → Says (look M G n i) (valueOf s i)
   unfolding lookIn
@@ -75,7 +83,7 @@ module _ (M : Model) (R : ModelRight M) (G : Simulation) (K : ContentRight M G) 
 
       go : (b : Bool) → tracks G n i ≡ b → Says (pick b (Known (getD row i (pos 0))) Open) (valueOf s i)
       go true t =
-          let p : i < M .variables = tracked-there n l i t in
+          let p : i < M .variables = tracked-there M G n (K .nodes n l) i t in
           let e : getD row i (pos 0) ≡ valueOf s i = getD-tab (pos 0) (M .variables) (G .label n) i p ∙ sym (c .agrees i p t) in
           subst (λ (z : ℤ). Says (Known (getD row i (pos 0))) z) e Says.known
       go false t = Says.open-number
@@ -166,11 +174,7 @@ module _ (M : Model) (R : ModelRight M) (G : Simulation) (K : ContentRight M G) 
   -- ---- the labels contain their nodes' concrete labels, the root's the initial state
   pub own : (n : ℕ) → n < G .nodes → Contains M G n (concreteState M G n)
   own n l = record {
-    state = record {
-      long = length-tab (M .variables) (G .concrete n);
-      low = λ v p. rw (getD-tab (pos 0) (M .variables) (G .concrete n) v p) (K .nodes n l .low v p);
-      high = λ v p. rw (getD-tab (pos 0) (M .variables) (G .concrete n) v p) (K .nodes n l .high v p);
-    };
+    state = concrete-in-range M G n (K .nodes n l);
     agrees = λ v p t. getD-tab (pos 0) (M .variables) (G .concrete n) v p ∙ sym (A .a1 n l v p t);
   }
 

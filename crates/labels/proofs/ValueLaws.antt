@@ -11,17 +11,13 @@ use lib.ListN.{length, getD}
 use Rattle.mdp.specs.Sums.{greatest}
 use Rattle.mdp.specs.Graph.{along}
 use Rattle.mdp.proofs.SumLaws.{greatest-above, greatest-below}
-use Rattle.folder.specs.Fields.{fieldLimit}
 use Rattle.folder.specs.Pick.{implies}
 use Rattle.folder.specs.Contents.{body, countOf, field, field4}
 use Rattle.folder.specs.Scan.{all}
 use Rattle.folder.specs.Tab.{fill}
 use Rattle.folder.proofs.Decides.{at-most, everywhere, reworded, same-test}
-use Rattle.model.specs.Limits.{mostVariables}
-use Rattle.model.specs.Layout.{variableCount}
 use Rattle.model.specs.Model.{Model, modelOf}
 use Rattle.model.specs.Chances.{mdp}
-use Rattle.model.proofs.Limits.{limits}
 use Rattle.graph.specs.Limits.{units}
 use Rattle.graph.specs.Simulation.{Simulation, nodeSize, nodeCount, simulationOf, graph}
 use Rattle.graph.specs.Rules.{valueRule}
@@ -52,9 +48,6 @@ module _ {m g values weights firsts : List ℕ} {n at : ℕ} (A : ValueReady m g
 
   abbrev G : Simulation
   G = simulationOf M g
-
-  pub few-enough : (variableCount m ≤ mostVariables) × (n ≤ fieldLimit)
-  few-enough = (limits (A .model .folder) .variables, omega (arith, A .here, A .folder .few))
 
   -- What the code reads: the bodies of commands and edges, and of node n the count of its edges.
   module _ {vars count : ℕ} {nb cs eb : List ℕ} (P : Parts m g vars nb) (u : cs ≡ body m 3) (w : eb ≡ body g 1) (q : count ≡ field (nodeSize vars) nb n 4) where

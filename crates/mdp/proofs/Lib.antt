@@ -1,4 +1,5 @@
 pub mod SumLaws
+pub mod SumLoop
 pub mod Best
 pub mod Cases
 pub mod Bound

@@ -2,11 +2,13 @@
 --     weighed         one law for all weighted sums: a bound on each part is a bound on the whole
 --     greatest-above, greatest-below   the greatest is an upper bound, and the least one
 --     attained        the greatest is 0, or one of the values
+--     sum-eq, greatest-eq   of equal values
 --     sum-more        a part of the sum
+--     sum-few         a bound on each value is a bound on the sum
 --     sum-next, greatest-next   one value more, as a loop adds it
 -- Assumes nothing.
 use Prim.Native.Nat.{ℕ, zero, suc, _+_, _*_, _≤_, _<_, max}
-use native.Mathlib.Nat.{le-step, le-refl, le-trans, le-of-suc-le-suc, not-suc-le-zero, mul-le-mul-left, le-max-left, le-max-right, eq-or-lt-of-le}
+use native.Mathlib.Nat.{le-step, le-refl, le-trans, le-of-suc-le-suc, not-suc-le-zero, mul-suc, mul-le-mul-left, le-max-left, le-max-right, eq-or-lt-of-le}
 use native.Mathlib.Nat.{max-eq-left, max-eq-right}
 use native.Mathlib.Decide.{decLe}
 use native.Mathlib.Numerals.{add-one}
@@ -57,6 +59,9 @@ attained (suc n) f = go (attained n f) (decLe (greatest n (λ j _. f j)) (f n))
 pub sum-eq : (n : ℕ) (f g : (i : ℕ) → i < n → ℕ) → ((i : ℕ) (h : i < n) → f i h ≡ g i h) → sum n f ≡ sum n g
 sum-eq n f g h = ap (sum n) (λ i j l. h j l i)
 
+pub greatest-eq : (n : ℕ) (f g : (i : ℕ) → i < n → ℕ) → ((i : ℕ) (h : i < n) → f i h ≡ g i h) → greatest n f ≡ greatest n g
+greatest-eq n f g h = ap (greatest n) (λ i j l. h j l i)
+
 -- What comes before c, and c itself, is part of the sum.
 pub sum-more : (n : ℕ) (f : ℕ → ℕ) (c : ℕ) → c < n → sum c (λ i _. f i) + f c ≤ sum n (λ i _. f i)
 sum-more zero f c h = absurd (not-suc-le-zero h)
@@ -64,6 +69,10 @@ sum-more (suc n) f c h =
     ⊎-elim (λ e. subst (λ (k : ℕ). sum k (λ i _. f i) + f k ≤ sum (suc n) (λ i _. f i)) (sym e) (le-refl _))
     (λ l. omega (arith, sum-more n f c l))
     (eq-or-lt-of-le (le-of-suc-le-suc h))
+
+pub sum-few : (most n : ℕ) (f : ℕ → ℕ) → ((i : ℕ) → i < n → f i ≤ most) → sum n (λ i _. f i) ≤ most * n
+sum-few most zero f h = omega arith
+sum-few most (suc n) f h = omega (arith, sum-few most n f (λ i l. h i (le-step l)), h n (le-refl (suc n)), mul-suc most n)
 
 module _ (n : ℕ) (f : ℕ → ℕ) {a t : ℕ} where
   pub sum-next : a ≡ sum n (λ i _. f i) → t ≡ f n → a + t ≡ sum (n + 1) (λ i _. f i)

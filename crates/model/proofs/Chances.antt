@@ -44,9 +44,12 @@ module _ (M : Model) where
     pub fair : Fair (mdp M)
     fair = record { positive = omega (arith, R .total); totals = R .weights }
 
-    -- A command's branch has a record.
+    -- A command's branches have records.
+    pub records-end : (c : ℕ) → c < M .commands → firstRecord M c + M .branches c ≤ M .records
+    records-end c l = omega (arith, R .records, sum-more (M .commands) (M .branches) c l)
+
     pub record-there : (c b : ℕ) → c < M .commands → b < M .branches c → firstRecord M c + b < M .records
-    record-there c b l k = omega (arith, R .records, sum-more (M .commands) (M .branches) c l)
+    record-there c b l k = omega (arith, records-end c l)
 
     pub next-in-range : (c b : ℕ) → c < M .commands → b < M .branches c → (s : State) → InRange M s → InRange M (next M c b s)
     unfolding next

@@ -1,6 +1,5 @@
 pub mod Decided
 pub mod Chances
 pub mod Limits
-pub mod SumLoop
 pub mod LayoutLaws
 pub mod ViewLaws

@@ -1,13 +1,15 @@
 -- What the folder rules say of the counts.
 -- Assumes nothing.
-use Prim.Native.Nat.{ℕ, _≤_}
+use Prim.Native.Nat.{ℕ, _+_, _<_, _≤_}
 use mathlib.Core.Path.{_≡_}
 use mathlib.Core.List.{List}
 use native.Mathlib.Omega.{arith}
 use Rattle.folder.specs.Contents.{body, countOf}
 use Rattle.model.specs.Limits.{mostVariables, mostExpressions, mostCommands, mostRecords}
 use Rattle.model.specs.Layout.{variableCount, branchSize, recordSize, recordCount}
-use Rattle.model.specs.Valid.{FolderRight}
+use Rattle.model.specs.Model.{modelOf, firstRecord}
+use Rattle.model.specs.Valid.{FolderRight, Valid}
+use Rattle.model.proofs.Chances.{records-end}
 
 pub record Limits (m : List ℕ) : Type 0 where
   pub variables : variableCount m ≤ mostVariables
@@ -23,6 +25,10 @@ limits f = record {
   commands = f .records 3 (omega arith) .few;
   records = f .records 4 (omega arith) .few;
 }
+
+-- A command's branch records are among the records, of which there are few.
+pub records-small : {m : List ℕ} → Valid m → (c : ℕ) → c < modelOf m .commands → firstRecord (modelOf m) c + modelOf m .branches c ≤ mostRecords
+records-small {m} valid c l = omega (arith, limits (valid .folder) .records, records-end (modelOf m) (valid .model) c l)
 
 -- The counts that the rows ask, as the code has them.
 module _ (m : List ℕ) where

@@ -9,7 +9,7 @@ use native.Mathlib.Omega.{arith}
 use borrow.Author.Tests.{ltb-true, le-ltb}
 use lib.Dec.{ltb}
 use lib.ListN.{length, take, drop}
-use Rattle.folder.specs.Contents.{startOf, lengthOf, body, countOf}
+use Rattle.folder.specs.Contents.{startOf, body, countOf}
 use Rattle.folder.specs.Table.{outcome}
 use Rattle.folder.specs.declared.Outcome.{Outcome}
 use Rattle.folder.specs.declared.Outcome.the-variants.{Accepted, Refused}

@@ -1,19 +1,16 @@
 -- What the tables and rows 12 to 17 give to the rules of one node.
 -- Assumes nothing.
-use Prim.Native.Nat.{ℕ, _+_, _≤_, _<_}
+use Prim.Native.Nat.{ℕ, _+_, _<_}
 use native.Mathlib.Omega.{arith}
-use mathlib.Core.Path.{_≡_, refl, sym, ap, _∙_}
+use mathlib.Core.Path.{_≡_, refl, ap, _∙_}
 use mathlib.Core.List.{List}
 use lib.ListN.{length, getD, replicate, length-replicate}
 use borrow.Author.Tests.{ne-eqb}
 use Rattle.folder.specs.Table.{firstBroken}
-use Rattle.folder.specs.Fields.{fieldLimit}
 use Rattle.folder.specs.Contents.{body}
-use Rattle.model.specs.Limits.{mostVariables}
 use Rattle.model.specs.Layout.{variableCount}
 use Rattle.model.specs.Model.{modelOf}
 use Rattle.model.specs.Valid.{Valid}
-use Rattle.model.proofs.Limits.{limits}
 use Rattle.graph.specs.Limits.{mostNodes}
 use Rattle.graph.specs.Simulation.{nodeSize, nodeField, nodeCount, simulationOf}
 use Rattle.graph.specs.Rules.{A2, B1, B2}
@@ -45,9 +42,6 @@ nothing-asked m g n e a b = rw (ne-eqb (nodeField (modelOf m) g n 0) 1 (λ q. a 
 -- Nor has it edges.
 pub no-edges : {m g : List ℕ} {n kind at : ℕ} → NodeOf m g n → kind ≡ nodeField (modelOf m) g n 0 → (kind ≡ 1 → ⊥) → at ≡ startsAt (modelOf m) g n → at ≡ startsAt (modelOf m) g (n + 1)
 no-edges {m} {g} {n} node k h e = place-skip (modelOf m) g n (node .rows .content .nodes n (node .there) .edges (λ q. h (k ∙ q))) e
-
-pub few-enough : {m g : List ℕ} {n : ℕ} → NodeOf m g n → (variableCount m ≤ mostVariables) × (n ≤ fieldLimit)
-few-enough node = (limits (node .model .folder) .variables, omega (arith, node .there, node .rows .folder .few))
 
 module _ {m g values weights firsts : List ℕ} (r : RulesReady m g values weights firsts) where
   pub node-of : {n : ℕ} → n < nodeCount (modelOf m) g → NodeOf m g n

@@ -2,20 +2,19 @@
 -- Assumes nothing.
 use Prim.Native.Nat.{ℕ, _+_, _%_, _≤_}
 use native.Mathlib.Omega.{arith}
-use mathlib.Core.Path.{_≡_, refl, sym, ap, _∙_, subst}
+use mathlib.Core.Path.{_≡_, sym, ap, _∙_, subst}
 use mathlib.Core.List.{List, _++_, append-nil}
 use borrow.Author.Tests.{eq-eqb, ne-eqb}
 use lib.ListN.{length, getD}
 use Rattle.folder.specs.Fields.{fieldLimit}
 use Rattle.folder.specs.Table.{outcome}
-use Rattle.folder.specs.declared.Outcome.{Outcome}
-use Rattle.folder.specs.declared.Outcome.the-variants.{Accepted, Refused}
+use Rattle.folder.specs.declared.Outcome.the-variants.{Accepted}
 use Rattle.text.specs.Text.{written, Holds}
 use Rattle.text.proofs.TextLaws.{holds-more}
 use Rattle.model.specs.Model.{Model, modelOf}
 use Rattle.graph.specs.Limits.{mostSteps, mostNodes}
 use Rattle.graph.specs.Simulation.{Simulation, simulationOf}
-use Rattle.graph.specs.Table.{summary, answerOf, graphAnswer, graphOutcome}
+use Rattle.graph.specs.Table.{summary, graphAnswer, graphOutcome}
 use Rattle.graph.specs.Figures.{figureRows, firstOf, secondOf}
 use Rattle.graph.specs.Valid.{Valid}
 use Rattle.graph.specs.declared.Summary.{Summary}
@@ -23,6 +22,7 @@ use Rattle.graph.specs.declared.GraphAnswer.{GraphAnswer}
 use Rattle.graph.specs.declared.GraphAnswer.the-variants as Answer
 use Rattle.graph.proofs.CountLaws.{kind-few, none-of-kind}
 use Rattle.graph.proofs.Decided.{accepted-valid, figure-valid}
+use Rattle.graph.proofs.Demand.{answer-is}
 use Rattle.rounds.proofs.FigureLaws.{begins}
 use Rattle.laguipy.proofs.CallLaws.{figure-goes-on}
 use Rattle.report.specs.Room.{textRoom}
@@ -99,19 +99,11 @@ module _ (m g : List ℕ) where
   module _ {s : Summary} (e : graphAnswer m g ≡ Answer.Accepted s) where
     pub answer-valid : Valid m g
     unfolding graphAnswer
-    answer-valid = accepted-valid m g .0 (accepting (graphOutcome m g) e)
-      where
-        accepting : (o : Outcome) → answerOf o (summary G) ≡ Answer.Accepted s → o ≡ Accepted
-        accepting Accepted q = refl
-        accepting (Refused f) q = cc
+    answer-valid = accepted-valid m g .0 (answer-is (graphOutcome m g) (summary G) s e .0)
 
     pub answer-summary : s ≡ summary G
     unfolding graphAnswer
-    answer-summary = counted (graphOutcome m g) e
-      where
-        counted : (o : Outcome) → answerOf o (summary G) ≡ Answer.Accepted s → s ≡ summary G
-        counted Accepted q = cc
-        counted (Refused f) q = cc
+    answer-summary = sym (answer-is (graphOutcome m g) (summary G) s e .1)
 
   -- What is printed of an answer.
   pub report-of : {a : GraphAnswer} {x : List ℕ} {out out′ : List ℕ} {r : ℕ}

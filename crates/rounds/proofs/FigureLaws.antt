@@ -12,7 +12,7 @@ use lib.Dec.{eqb}
 use lib.ListN.{length, getD, length-append, List·getD-append}
 use Rattle.mdp.specs.Kinds.{Kind, waiting, expanded, covered, target}
 use Rattle.mdp.specs.Graph.{along, again, round, up, figure}
-use Rattle.mdp.proofs.SumLaws.{sum-eq}
+use Rattle.mdp.proofs.SumLaws.{sum-eq, greatest-eq}
 use Rattle.folder.specs.Pick.{pick}
 use Rattle.folder.specs.Tab.{tab}
 use Rattle.folder.proofs.TabLaws.{length-tab, getD-tab, tab-same}
@@ -26,7 +26,7 @@ use Rattle.sums.specs.Tables.{Round, figureBy}
 use Rattle.rounds.specs.Rounds.{source, ownStart, ownNext, nextRound}
 use Rattle.rounds.proofs.RoundLaws.{own-start, own-next, shared-source}
 use Rattle.sums.proofs.EdgeLaws.{up-small}
-use Rattle.sums.proofs.ModelLaws.{greatest-eq, best-small}
+use Rattle.sums.proofs.ModelLaws.{best-small}
 use Rattle.rounds.proofs.NodeLaws.{some-total}
 use Rattle.rounds.proofs.CoverLaws.{source-in}
 

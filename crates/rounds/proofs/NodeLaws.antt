@@ -10,8 +10,9 @@ use Rattle.model.specs.Layout.{variableCount}
 use Rattle.model.specs.Model.{Model, modelOf}
 use Rattle.model.proofs.Limits.{limits}
 use Rattle.graph.specs.Limits.{units}
-use Rattle.graph.specs.Simulation.{Simulation, edgesStart, nodeSize, nodeField, simulationOf}
+use Rattle.graph.specs.Simulation.{Simulation, nodeSize, simulationOf}
 use Rattle.graph.specs.Valid.{Valid}
+use Rattle.graph.specs.Walks.{startsAt}
 use Rattle.sums.specs.Edges.{after, EdgesReady, bestOf}
 use Rattle.sums.specs.Tables.{Tables, Round, figureBy}
 use Rattle.rounds.specs.Rounds.{ownNext, nodesOf, Shaped}
@@ -41,20 +42,12 @@ module _ {m g : List ℕ} (A : Valid m g) where
   pub some-total : 0 < M .total
   some-total = omega (arith, A .model .model .total)
 
-  -- Where the edges of node n start.
-  abbrev starts : ℕ → ℕ
-  starts n = edgesStart M (body g 1) (λ i. nodeField M g i 4) n
-
-  pub starts-none : 0 ≡ starts 0
-  unfolding edgesStart
-  starts-none = refl
-
   module _ {size d : ℕ} {cs nb eb : List ℕ} (P : Parts m g size d cs nb eb) {weights firsts : List ℕ} (T : Tables M weights firsts) where
-    module _ {n at count : ℕ} (l : n < G .nodes) (a : at ≡ starts n) (q : count ≡ field size nb n 4) where
+    module _ {n at count : ℕ} (l : n < G .nodes) (a : at ≡ startsAt M g n) (q : count ≡ field size nb n 4) where
       pub node-ready : (nodes : ℕ) → G .nodes ≤ nodes → EdgesReady cs eb weights firsts nodes at count
       node-ready nodes k = rw (P .commands, P .edges, a, q, P .size-is, P .nodes) (edges-ready m g (A .model .model) T n (A .rows .content .edges n l) nodes k)
 
-      pub node-next : {k : ℕ} → k ≡ after cs eb at count → k ≡ starts (n + 1)
+      pub node-next : {k : ℕ} → k ≡ after cs eb at count → k ≡ startsAt M g (n + 1)
       node-next p = p ∙ rw (P .commands, P .edges, a, q, P .size-is, P .nodes) (next-starts m g (A .model .model) T n (A .rows .content .edges n l))
 
       module _ (row : List ℕ) {best : ℕ} (b : best ≡ bestOf cs eb weights firsts row at count) where

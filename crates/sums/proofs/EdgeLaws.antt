@@ -7,16 +7,28 @@ use mathlib.Core.Path.{_≡_, refl, _∙_}
 use mathlib.Core.List.{List}
 use native.Mathlib.Numerals.{add-one}
 use lib.ListN.{getD}
-use Rattle.mdp.proofs.SumLaws.{sum-next, greatest-next}
+use Rattle.mdp.proofs.SumLaws.{greatest-next}
+use Rattle.mdp.proofs.SumLoop.{Summed, sum-start, sum-next, sum-over}
 use Rattle.folder.specs.Fields.{u16}
 use Rattle.folder.specs.Contents.{field}
 use Rattle.graph.specs.Simulation.{edgeAfter, edgeSize}
-use Rattle.sums.specs.Edges.{sumAt, EdgeFits, after, EdgeReady, EdgesReady, sumOf, bestOf}
+use Rattle.sums.specs.Edges.{mostProduct, sumAt, EdgeFits, after, EdgeReady, EdgesReady, sumOf, bestOf}
 
-pub branch-more : (weights row eb : List ℕ) (first k b : ℕ) {a t to : ℕ} → a ≡ sumAt weights row eb first b k
-    → to ≡ u16 eb (k + 2 + 2 * b) → t ≡ getD weights (first + b) 0 * getD row to 0 → a + t ≡ sumAt weights row eb first (b + 1) k
-unfolding sumAt
-branch-more weights row eb first k b p q r = sum-next b (λ i. getD weights (first + i) 0 * getD row (u16 eb (k + 2 + 2 * i)) 0) p (r ∙ rw q refl)
+-- The edge at k: b of its n branches are added up.
+pub record Weighed (weights row eb : List ℕ) (first k n b a : ℕ) : Type 0 where
+  pub summed : Summed mostProduct (λ i. getD weights (first + i) 0 * getD row (u16 eb (k + 2 + 2 * i)) 0) n b a
+
+pub weigh-start : (weights row eb : List ℕ) (first k n : ℕ) → Weighed weights row eb first k n 0 0
+weigh-start weights row eb first k n = record { summed = sum-start _ _ n }
+
+module _ {weights row eb : List ℕ} {first k n b a : ℕ} (h : Weighed weights row eb first k n b a) where
+  pub weigh-next : {t to : ℕ} → b < n → to ≡ u16 eb (k + 2 + 2 * b) → t ≡ getD weights (first + b) 0 * getD row to 0 → t ≤ mostProduct
+      → Weighed weights row eb first k n (b + 1) (a + t)
+  weigh-next l q r s = record { summed = sum-next (h .summed) l (r ∙ rw q refl) s }
+
+  pub weigh-over : n ≤ b → a ≡ sumAt weights row eb first n k
+  unfolding sumAt
+  weigh-over l = sum-over (h .summed) l refl
 
 module _ {cs eb weights firsts : List ℕ} {nodes at count : ℕ} (R : EdgesReady cs eb weights firsts nodes at count) {k e : ℕ} (p : k ≡ after cs eb at e) (l : e < count) where
   pub ready-here : EdgeReady cs eb weights firsts nodes k

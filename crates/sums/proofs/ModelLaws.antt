@@ -1,26 +1,27 @@
 -- What an accepted graph gives the walk over its edges: each edge is ready, the walk goes as the graph's definition says,
 -- and its greatest sum is the definition's, which divided by D is at most certainty.
 -- Assumes nothing.
-use Prim.Native.Nat.{ℕ, zero, suc, _+_, _-_, _*_, _≤_, _<_}
+use Prim.Native.Nat.{ℕ, zero, suc, _+_, _*_, _≤_, _<_}
 use native.Mathlib.Numerals.{add-one}
 use native.Mathlib.Omega.{arith}
-use mathlib.Core.Path.{_≡_, refl, ap}
+use mathlib.Core.Path.{_≡_, refl}
 use mathlib.Core.List.{List}
 use borrow.Author.Tests.{leb-true}
 use lib.ListN.{length, getD}
 use Rattle.mdp.specs.Sums.{greatest}
 use Rattle.mdp.specs.Graph.{along}
-use Rattle.mdp.proofs.SumLaws.{sum-eq, weighed, greatest-below}
+use Rattle.mdp.proofs.SumLaws.{sum-eq, greatest-eq, weighed, greatest-below}
 use Rattle.folder.specs.Fields.{u16}
 use Rattle.folder.specs.Contents.{body, field}
 use Rattle.folder.proofs.ContentsLaws.{record-whole}
 use Rattle.model.specs.Model.{Model, modelOf, firstRecord}
 use Rattle.model.specs.Chances.{mdp}
 use Rattle.model.specs.Valid as Models
-use Rattle.model.proofs.Chances.{record-there}
+use Rattle.model.proofs.Chances.{records-end, record-there}
 use Rattle.graph.specs.Limits.{units}
 use Rattle.graph.specs.Simulation.{Simulation, edgeSize, edgeAfter, edgesStart, edgeWhole, edgeAt, nodeField, simulationOf, graph}
 use Rattle.graph.specs.Valid.{EdgeRight}
+use Rattle.graph.specs.Walks.{startsAt}
 use Rattle.sums.specs.Edges.{sumAt, after, EdgeReady, EdgesReady, sumOf, bestOf}
 use Rattle.sums.specs.Tables.{Tables, Round}
 
@@ -29,9 +30,6 @@ pub after-is : (m eb : List ℕ) (k j : ℕ) → after (body m 3) eb k j ≡ edg
 unfolding edgeAfter edgeSize
 after-is m eb k zero = refl
 after-is m eb k (suc j) = rw (after-is m eb k j) refl
-
-pub greatest-eq : (n : ℕ) (f g : (i : ℕ) → i < n → ℕ) → ((i : ℕ) (h : i < n) → f i h ≡ g i h) → greatest n f ≡ greatest n g
-greatest-eq n f g h = ap (greatest n) (λ i j l. h j l i)
 
 module _ (m g : List ℕ) where
   abbrev M : Model
@@ -76,11 +74,8 @@ module _ (m g : List ℕ) where
       there : (b : ℕ) → b < branches → firstRecord M command + b < M .records
       there b l = record-there M R command b (E .command) l
 
-      -- A command has a branch, so the last record tells where they end.
       ends : firstRecord M command + branches ≤ length weights
-      ends =
-          let s = R .commands command (E .command) .some in
-          omega (arith, there (branches - 1) (omega arith), T .weights-long)
+      ends = omega (arith, records-end M R command (E .command), T .weights-long)
 
       pub edge-ready : (nodes : ℕ) → G .nodes ≤ nodes → EdgeReady (body m 3) (body g 1) weights firsts nodes spot
       edge-ready nodes l = record {
@@ -103,7 +98,7 @@ module _ (m g : List ℕ) where
     module _ (n : ℕ) (E : (e : ℕ) → e < G .edges n → EdgeRight M G n e) where
       -- Where they start, and how many there are.
       abbrev starts : ℕ
-      starts = edgesStart M (body g 1) (λ i. nodeField M g i 4) n
+      starts = startsAt M g n
 
       abbrev edges : ℕ
       edges = nodeField M g n 4
@@ -120,6 +115,6 @@ module _ (m g : List ℕ) where
       unfolding bestOf
       best-is row = greatest-eq edges _ _ (λ e k. rw (at-spot e) (sum-is n e (E e k) row))
 
-      pub next-starts : after (body m 3) (body g 1) starts edges ≡ edgesStart M (body g 1) (λ i. nodeField M g i 4) (n + 1)
+      pub next-starts : after (body m 3) (body g 1) starts edges ≡ startsAt M g (n + 1)
       unfolding edgesStart
       next-starts = rw add-one (after-is m (body g 1) starts edges)

@@ -6,9 +6,8 @@ use mathlib.Core.Path.{_≡_, refl, sym, _∙_}
 use mathlib.Core.List.{List}
 use borrow.Author.Count.{below-more}
 use lib.ListN.{length}
-use Rattle.mdp.proofs.SumLaws.{sum-next}
 use Rattle.folder.specs.Fields.{fieldLimit}
-use Rattle.folder.specs.Contents.{body, field, countOf}
+use Rattle.folder.specs.Contents.{body, countOf}
 use Rattle.model.specs.Layout.{variableCount, branchSize}
 use Rattle.model.specs.Model.{modelOf}
 use Rattle.sums.specs.Tables.{Tables, weightIn, firstIn, Light}
@@ -23,9 +22,6 @@ light-more f h e l = record { fits = below-more _ _ (h .fits) (rw e at l) }
 
 pub light-over : (f : ℕ → ℕ) {n k : ℕ} → Light n f → n ≡ k → Light k f
 light-over f h e = rw (sym e) h
-
-pub first-more : (cs : List ℕ) (c : ℕ) {a n : ℕ} → a ≡ firstIn cs c → n ≡ field 4 cs c 1 → a + n ≡ firstIn cs (c + 1)
-first-more cs c p q = sum-next c (λ i. field 4 cs i 1) p q
 
 -- The tables filled from the model's bodies.
 pub record-count : (m : List ℕ) {size : ℕ} {bs : List ℕ} → size ≡ branchSize (variableCount m) → bs ≡ body m 4 → countOf size bs ≡ modelOf m .records

@@ -1,22 +1,24 @@
 use Prim.Native.Nat.{_-_}
 use mathlib.Core.Path.{_≡_}
+use native.Mathlib.Nat.{le-of-lt}
 use native.Mathlib.Omega.{arith}
 use borrow.Author.Tests.{eq-eqb, ne-eqb}
 use lib.Dec.{eqb}
 use denote.Ref.{now}
 use Rattle.mdp.proofs.SumLaws.{sum-more}
 use borrow.Author.Needs.{needs}
+use Rattle.folder.specs.Fields.{fieldLimit}
 use Rattle.folder.specs.Contents.{body, field}
 use Rattle.folder.proofs.ScanLaws.{Scanned, scan-start, scan-next, scan-found, scan-over}
 use Rattle.model.specs.Model.{modelOf}
 use Rattle.model.specs.Rules.{weightsTotal}
-use Rattle.model.proofs.SumLoop.{Summed, sum-start, sum-next}
+use Rattle.mdp.proofs.SumLoop.{Summed, sum-start, sum-next}
 use Rattle.content.proofs.BodyLaws.{branches-in, total-in}
 use Rattle.content.proofs.first_bad_total.Statement.{statement}
 use Rattle.content.proofs.first_bad_total.Tie as tie
 
 abbrev Inv-loop : tie.InvT-loop
-Inv-loop m n total size k b c₀ at₀ c at = Scanned (weightsTotal (modelOf m)) n c × Summed (λ i. field 4 (body m 3) i 1) n c at
+Inv-loop m n total size k b c₀ at₀ c at = Scanned (weightsTotal (modelOf m)) n c × Summed fieldLimit (λ i. field 4 (body m 3) i 1) n c at
 
 abbrev μ-loop : tie.MeasureT-loop
 μ-loop m n total size k b c₀ at₀ c at = n - c
@@ -40,7 +42,7 @@ loop-again : tie.Need-loop-again Inv-loop μ-loop
 loop-again c =
     let l = c .before .before .before .before .loop .inv in
     let t = c .before .before .before .loop-test .taken in
-    (scan-next (l .0) t (tested (c .before)) (eq-eqb _ _ (c .if1 .taken)), sum-next (l .1) t (branches (c .before .before)) (c .before .before .field2 .ensures .1))
+    (scan-next (l .0) t (tested (c .before)) (eq-eqb _ _ (c .if1 .taken)), sum-next (l .1) t (branches (c .before .before)) (le-of-lt (c .before .before .field2 .ensures .1)))
 
 returns : tie.Need-returns Inv-loop μ-loop
 returns c = scan-found (c .before .before .before .before .loop .inv .0) (c .before .before .before .loop-test .taken) (tested (c .before)) (ne-eqb _ _ (c .if1 .left))
@@ -58,7 +60,7 @@ first-bad-total-spec =
     (λ c. search needs)
     (λ c κs. search needs)
     (λ c κs. search needs)
-    (λ c. (scan-start _ _, sum-start _ _))
+    (λ c. (scan-start _ _, sum-start _ _ _))
     (λ c κs. search needs)
     weight-sum-requires
     (λ c. search needs)

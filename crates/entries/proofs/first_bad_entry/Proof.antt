@@ -5,12 +5,12 @@ use borrow.Author.Needs.{needs}
 use Rattle.folder.specs.Scan.{firstBad}
 use Rattle.folder.proofs.ScanLaws.{scan-over}
 use Rattle.expressions.specs.Entries.{entriesOf}
-use Rattle.entries.proofs.Row.{Filled, fill-start, fill-small, fill-next, fill-found}
+use Rattle.entries.proofs.Row.{Deep, fill-start, fill-small, fill-next, fill-found}
 use Rattle.entries.proofs.first_bad_entry.Statement.{statement}
 use Rattle.entries.proofs.first_bad_entry.Tie as tie
 
 abbrev Inv-loop : tie.InvT-loop
-Inv-loop x variables n depths₀ i₀ depths i = Filled (entriesOf x) variables n i depths
+Inv-loop x variables n depths₀ i₀ depths i = Deep (entriesOf x) variables n i depths
 
 abbrev μ-loop : tie.MeasureT-loop
 μ-loop x variables n depths₀ i₀ depths i = n - i

@@ -1,22 +1,26 @@
 use native.Mathlib.Omega.{arith}
 use borrow.Author.Needs.{needs}
-use Rattle.labels.proofs.ValueLaws.{few-enough, ready, value-is}
+use Rattle.graph.proofs.RowLaws.{few-enough}
+use Rattle.labels.proofs.ValueLaws.{ready, value-is}
 use Rattle.labels.proofs.value_rule.Statement.{statement}
 use Rattle.labels.proofs.value_rule.Tie as tie
 
 node-field-requires : tie.Need-node-field-requires
 node-field-requires c κs =
-    let f = few-enough (c .before .before .before .before .before .before .before .pre) in
+    let p = c .before .before .before .before .before .before .before .pre in
+    let f = few-enough (p .model .folder) (p .folder) (p .here) in
     (omega (arith, f .0, c .before .variable-count .ensures .0), f .1, omega arith)
 
 node-field-requires-2 : tie.Need-node-field-requires-2
 node-field-requires-2 c κs =
-    let f = few-enough (c .before .before .before .before .before .before .before .before .pre) in
+    let p = c .before .before .before .before .before .before .before .before .pre in
+    let f = few-enough (p .model .folder) (p .folder) (p .here) in
     (omega (arith, f .0, c .before .before .variable-count .ensures .0), f .1, omega arith)
 
 node-field-requires-3 : tie.Need-node-field-requires-3
 node-field-requires-3 c κs =
-    let f = few-enough (c .before .before .before .before .before .before .before .before .before .pre) in
+    let p = c .before .before .before .before .before .before .before .before .before .pre in
+    let f = few-enough (p .model .folder) (p .folder) (p .here) in
     (omega (arith, f .0, c .before .before .before .variable-count .ensures .0), f .1, omega arith)
 
 best-of-requires : tie.Need-best-of-requires

@@ -11,7 +11,8 @@ use Rattle.graph.specs.Simulation.{simulationOf}
 use Rattle.graph.specs.Rules.{valueRule}
 use Rattle.nodes.specs.Ready.{coverRules}
 use Rattle.folder.proofs.RuleLaws.{Left, no-rule, rule-breaks, rule-holds, rules-over}
-use Rattle.nodes.proofs.NodeLaws.{few-enough, value-ready}
+use Rattle.graph.proofs.RowLaws.{few-enough}
+use Rattle.nodes.proofs.NodeLaws.{value-ready}
 use Rattle.nodes.proofs.cover_rules.Statement.{statement}
 use Rattle.nodes.proofs.cover_rules.Tie as tie
 
@@ -35,19 +36,19 @@ value-tested : (c : tie.After-value-rule) → c .value-rule .result ≡ valued (
 value-tested c = c .value-rule .ensures ∙ ap (valued (c .before .before .before .before .before .before .before .before .before .before .before .before)) (c .before .before .before .before .before .before .before .before .before .before .before .before .pre .1 .0 .valued)
 
 c3-requires : tie.Need-c3-requires
-c3-requires c κs = few-enough (c .before .before .before .before .before .pre .0)
+c3-requires c κs = let p = c .before .before .before .before .before .pre .0 in few-enough (p .model .folder) (p .rows .folder) (p .there)
 
 returns : tie.Need-returns
 returns c = rule-breaks (no-rule _) (c .before .c3 .ensures) (not-true _ (c .if1 .taken))
 
 c1-requires : tie.Need-c1-requires
-c1-requires c κs = few-enough (c .before .before .before .before .before .before .before .pre .0)
+c1-requires c κs = let p = c .before .before .before .before .before .before .before .pre .0 in few-enough (p .model .folder) (p .rows .folder) (p .there)
 
 returns-2 : tie.Need-returns-2
 returns-2 c = rule-breaks (past1 (c .before .before)) (c .before .c1 .ensures) (not-true _ (c .if2 .taken))
 
 c2-requires : tie.Need-c2-requires
-c2-requires c κs = few-enough (c .before .before .before .before .before .before .before .before .before .pre .0)
+c2-requires c κs = let p = c .before .before .before .before .before .before .before .before .before .pre .0 in few-enough (p .model .folder) (p .rows .folder) (p .there)
 
 returns-3 : tie.Need-returns-3
 returns-3 c = rule-breaks (past2 (c .before .before)) (c .before .c2 .ensures) (not-true _ (c .if3 .taken))

@@ -12,7 +12,8 @@ use Rattle.graph.specs.Simulation.{simulationOf}
 use Rattle.graph.specs.Table.{nodeRules}
 use Rattle.nodes.specs.Ready.{coverRules}
 use Rattle.folder.proofs.RuleLaws.{Left, no-rule, rule-breaks, rule-holds, first-rules, then-rules}
-use Rattle.nodes.proofs.NodeLaws.{few-enough, firsts-of, reading-numbered}
+use Rattle.graph.proofs.RowLaws.{few-enough}
+use Rattle.nodes.proofs.NodeLaws.{firsts-of, reading-numbered}
 use Rattle.nodes.proofs.node_rules.Statement.{statement}
 use Rattle.nodes.proofs.node_rules.Tie as tie
 
@@ -26,7 +27,7 @@ past1 : (c : tie.Else1) → Left (rules (c .before .before .before .before .befo
 past1 c = rule-holds (no-rule _) (c .before .a1 .ensures) (not-false _ (c .if1 .left))
 
 a1-requires : tie.Need-a1-requires
-a1-requires c κs = few-enough (c .before .before .before .before .before .pre .0)
+a1-requires c κs = let p = c .before .before .before .before .before .pre .0 in few-enough (p .model .folder) (p .rows .folder) (p .there)
 
 returns : tie.Need-returns
 returns c = (rule-breaks (no-rule _) (c .before .a1 .ensures) (not-true _ (c .if1 .taken)), λ e. absurd (omega arith))

@@ -32,26 +32,26 @@ loop-again c =
     (back (c .before .struct-told .given .0 .1)) (back (c .struct-told2 .given .1 .0 .1)) (c .before .before .if1 .taken)
 
 same-length : tie.Need-same-length Inv-loop μ-loop
-same-length c = c .before .before .before .before .before .before .loop .inv .low-length
+same-length c = c .before .before .before .before .before .before .loop .inv .low-row .long
 
 same-length-2 : tie.Need-same-length-2 Inv-loop μ-loop
-same-length-2 c = c .before .before .before .before .before .before .loop .inv .high-length
+same-length-2 c = c .before .before .before .before .before .before .loop .inv .high-row .long
 
 returns : tie.Need-returns Inv-loop μ-loop
 returns c =
     let l = c .before .before .before .before .before .before in
-    (fill-found (l .loop .inv) (c .before .before .before .before .before .loop-test .taken) (c .before .before .range-of .ensures) (c .before .in-limits .ensures) (c .if1 .left) ∙ ap (firstBad _) (l .before .count-of .ensures), (l .loop .inv .lows-are, l .loop .inv .highs-are))
+    (fill-found (l .loop .inv) (c .before .before .before .before .before .loop-test .taken) (c .before .before .range-of .ensures) (c .before .in-limits .ensures) (c .if1 .left) ∙ ap (firstBad _) (l .before .count-of .ensures), (l .loop .inv .low-row .is, l .loop .inv .high-row .is))
 
 same-length-3 : tie.Need-same-length-3 Inv-loop μ-loop
-same-length-3 c = c .before .loop .inv .low-length
+same-length-3 c = c .before .loop .inv .low-row .long
 
 same-length-4 : tie.Need-same-length-4 Inv-loop μ-loop
-same-length-4 c = c .before .loop .inv .high-length
+same-length-4 c = c .before .loop .inv .high-row .long
 
 returns-2 : tie.Need-returns-2 Inv-loop μ-loop
 returns-2 c =
     let l = c .before in
-    (scan-over (l .loop .inv .scanned) (c .loop-test .left) ∙ ap (firstBad _) (l .before .count-of .ensures), (l .loop .inv .lows-are, l .loop .inv .highs-are))
+    (scan-over (l .loop .inv .scanned) (c .loop-test .left) ∙ ap (firstBad _) (l .before .count-of .ensures), (l .loop .inv .low-row .is, l .loop .inv .high-row .is))
 
 pub fill-ranges-spec : {M : Type 1} → statement M
 fill-ranges-spec =

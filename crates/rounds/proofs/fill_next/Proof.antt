@@ -1,11 +1,12 @@
 use denote.Ref.{now}
 use Rattle.folder.proofs.FillLaws.{Filled, fill-start, fill-next, fill-over}
-use Rattle.rounds.proofs.NodeLaws.{Parts, some-total, starts-none, node-ready, node-next, node-small, node-figure}
+use Rattle.rounds.proofs.NodeLaws.{Parts, some-total, node-ready, node-next, node-small, node-figure}
 use Prim.Native.Nat.{_<_, _-_}
-use mathlib.Core.Path.{_≡_}
-use Rattle.folder.specs.Contents.{body}
+use mathlib.Core.Path.{_≡_, sym}
 use Rattle.model.specs.Model.{modelOf}
-use Rattle.graph.specs.Simulation.{edgesStart, nodeField, simulationOf}
+use Rattle.graph.specs.Simulation.{simulationOf}
+use Rattle.graph.specs.Walks.{startsAt}
+use Rattle.graph.proofs.EdgePlaces.{place-none}
 use Rattle.rounds.specs.Rounds.{nodesOf, ownNext}
 use native.Mathlib.Omega.{arith}
 use borrow.Author.Needs.{needs}
@@ -13,7 +14,7 @@ use Rattle.rounds.proofs.fill_next.Statement.{statement}
 use Rattle.rounds.proofs.fill_next.Tie as tie
 
 abbrev Inv-loop : tie.InvT-loop
-Inv-loop m g weights firsts src dst₀ size nodes d cs nb eb at₀ n₀ dst at n = Filled (ownNext (modelOf m) (simulationOf (modelOf m) g) src) nodes dst₀ dst n × (at ≡ edgesStart (modelOf m) (body g 1) (λ i. nodeField (modelOf m) g i 4) n)
+Inv-loop m g weights firsts src dst₀ size nodes d cs nb eb at₀ n₀ dst at n = Filled (ownNext (modelOf m) (simulationOf (modelOf m) g) src) nodes dst₀ dst n × (at ≡ startsAt (modelOf m) g n)
 
 abbrev μ-loop : tie.MeasureT-loop
 μ-loop m g weights firsts src dst₀ size nodes d cs nb eb at₀ n₀ dst at n = nodes - n
@@ -30,7 +31,7 @@ parts c = record {
 }
 
 loop-holds : tie.Need-loop-holds Inv-loop μ-loop
-loop-holds c = (fill-start _ _ _, starts-none (c .before .before .before .before .before .before .before .before .before .before .before .pre .0))
+loop-holds c = (fill-start _ _ _, sym (place-none _ _))
 
 best-of-requires : tie.Need-best-of-requires Inv-loop μ-loop
 best-of-requires c κs =

@@ -1,21 +1,18 @@
-use Prim.Native.Nat.{_≤_, _*_, _-_}
-use mathlib.Core.Path.{_≡_}
+use Prim.Native.Nat.{_-_}
 use native.Mathlib.Omega.{arith}
 use borrow.Author.Needs.{needs}
-use Rattle.sums.proofs.EdgeLaws.{branch-more}
-use Rattle.sums.specs.Edges.{mostProduct, sumAt}
+use Rattle.sums.proofs.EdgeLaws.{Weighed, weigh-start, weigh-next, weigh-over}
 use Rattle.sums.proofs.edge_sum.Statement.{statement}
 use Rattle.sums.proofs.edge_sum.Tie as tie
 
 abbrev Inv-loop : tie.InvT-loop
-Inv-loop weights row eb first count at acc₀ b₀ acc b = (b ≤ count) × (acc ≡ sumAt weights row eb first b at) × (acc ≤ b * mostProduct)
+Inv-loop weights row eb first count at acc₀ b₀ acc b = Weighed weights row eb first at count b acc
 
 abbrev μ-loop : tie.MeasureT-loop
 μ-loop weights row eb first count at acc₀ b₀ acc b = count - b
 
 loop-holds : tie.Need-loop-holds Inv-loop μ-loop
-unfolding sumAt
-loop-holds c = search needs
+loop-holds c = weigh-start _ _ _ _ _ _
 
 shared-slice-read-times-2 : tie.Need-shared-slice-read-times-2 Inv-loop μ-loop
 shared-slice-read-times-2 c =
@@ -29,19 +26,15 @@ times-requires c κs =
 
 loop-again : tie.Need-loop-again Inv-loop μ-loop
 loop-again c =
-    let a = c .before .before .before .before .before .before .before .before .before .args in
-    let l = c .before .before .before .before .before .loop in (
-      omega arith,
-      branch-more _ _ _ (a .first) (a .at) (l .b) (l .inv .1) (c .before .before .before .u16-in .ensures .0) (c .times .ensures .0),
-      omega arith,
-    )
+    let l = c .before .before .before .before .before .loop in
+    let t = c .times .ensures in
+    weigh-next (l .inv) (c .before .before .before .before .loop-test .taken) (c .before .before .before .u16-in .ensures .0) (t .0) (t .1)
 
 returns : tie.Need-returns Inv-loop μ-loop
 returns c =
-    let a = c .before .before .before .before .before .args in
-    let l = c .before .loop in
-    let q : l .b ≡ a .count = omega arith in
-    ((cc), omega arith)
+    let h = c .before .loop .inv in
+    let p = c .before .before .before .before .before .pre in
+    (weigh-over h (c .loop-test .left), omega (arith, h .summed .within, h .summed .small, p .few))
 
 pub edge-sum-spec : {M : Type 1} → statement M
 edge-sum-spec =
