@@ -2,15 +2,14 @@
 -- in a state, which is the label that tracks every variable.
 -- Assumes nothing.
 use Prim.Native.Nat.{ℕ, _<_, _≤_}
-use mathlib.Core.Path.{_≡_, refl, sym, _∙_, subst}
+use mathlib.Core.Path.{_≡_, sym, _∙_, subst}
 use mathlib.Core.Bool.{Bool, true, false}
 use mathlib.Core.List.{List}
 use native.Mathlib.Decide.{decLt}
 use native.Mathlib.Omega.{arith}
 use borrow.Author.Tests.{le-ltb}
-use lib.ListN.{getD}
 use lib.IntN.{ℤ, pos}
-use Rattle.folder.specs.Pick.{pick}
+use Rattle.folder.proofs.PickLaws.{pick-by, pick-all}
 use Rattle.expressions.specs.Limits.{allTracked}
 use Rattle.expressions.specs.Entries.{Entries, numberForm, truthForm}
 use Rattle.expressions.specs.Levels.{numberAt, truthAt}
@@ -67,11 +66,7 @@ module _ (x : Entries) (variables : ℕ) (bound : ℕ → Range) (formed : Forme
 
   value-in : (t : ℕ) (v : List ℤ) → Values t v bound → (i : ℕ) → InN (bound i) (lookIn t v i)
   unfolding lookIn
-  value-in t v h i = go (hasBit t i) refl
-    where
-      go : (b : Bool) → hasBit t i ≡ b → InN (bound i) (pick b (Known (getD v i (pos 0))) Open)
-      go true e = InN.known-in (record { low = h .low i e; high = h .high i e })
-      go false e = InN.open-in
+  value-in t v h i = pick-by (InN (bound i)) (hasBit t i) (λ e. InN.known-in (record { low = h .low i e; high = h .high i e })) (λ e. InN.open-in)
 
 -- ---- a label
 module _ (x : Entries) (t : ℕ) (v : List ℤ) (ready : Ready x t v) where
@@ -101,11 +96,7 @@ module _ (x : Entries) (s : State) (grounded : Grounded x s) where
 
   says : (i : ℕ) → Says (lookIn allTracked s i) (valueOf s i)
   unfolding lookIn
-  says i = go (hasBit allTracked i)
-    where
-      go : (b : Bool) → Says (pick b (Known (valueOf s i)) Open) (valueOf s i)
-      go true = Says.known
-      go false = Says.open-number
+  says i = pick-all (λ (a : Number). Says a (valueOf s i)) (hasBit allTracked i) Says.known Says.open-number
 
   module _ (e : ℕ) where
     pub number-known : (z : ℤ) → readNumber x (lookIn allTracked s) e ≡ Known z → z ≡ numberIn x s e

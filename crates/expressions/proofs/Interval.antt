@@ -1,15 +1,21 @@
 -- A number lies in its range in every state whose variables lie in theirs.
 -- Assumes nothing.
-use Prim.Native.Nat.{ℕ, suc}
-use mathlib.Core.Bool.{Bool, true, false}
+use Prim.Native.Nat.{ℕ, suc, _<_}
+use mathlib.Core.Path.{_≡_}
+use mathlib.Core.Bool.{Bool}
+use native.Mathlib.Decide.{decLt}
+use native.Mathlib.Omega.{arith}
+use borrow.Author.Tests.{lt-ltb, le-ltb}
+use lib.ListN.{length, List·getD-eq-default}
 use lib.IntN.{ℤ, pos, _*ℤ_}
 use lib.Signed.{_≤ℤ_}
 use Rattle.folder.specs.Pick.{pick}
+use Rattle.folder.proofs.PickLaws.{pick-all}
 use Rattle.expressions.specs.Entries.{Entries}
 use Rattle.whole.specs.Order.{minZ, maxZ}
 use Rattle.expressions.specs.Operations.{arithZ}
 use Rattle.expressions.specs.Meaning.{State, valueOf, meaning, numberIn}
-use Rattle.expressions.specs.Ranges.{span, least, greatest, product, arithR, hull, ranging, rangeOf}
+use Rattle.expressions.specs.Ranges.{span, least, greatest, product, arithR, hull, boundOf, ranging, rangeOf}
 use Rattle.expressions.specs.Right.{Inside}
 use Rattle.expressions.specs.declared.Arith.{Arith}
 use Rattle.expressions.specs.declared.Arith.the-variants.{Add, Subtract, Multiply, Smaller, Larger}
@@ -69,11 +75,21 @@ in-arith Smaller h l = between _ (min-mono (from-low h) (from-low l)) (min-mono 
 in-arith Larger h l = between _ (max-mono (from-low h) (from-low l)) (max-mono (to-high h) (to-high l))
 
 pub in-hull : (t : Bool) {r q : Range} {a b : ℤ} → In r a → In q b → In (hull r q) (pick t a b)
-in-hull true {r} {q} h l = between (hull r q) (⊑-trans (min-le-l (r .low) (q .low)) (from-low h)) (⊑-trans (to-high h) (le-max-l (r .high) (q .high)))
-in-hull false {r} {q} h l = between (hull r q) (⊑-trans (min-le-r (r .low) (q .low)) (from-low l)) (⊑-trans (to-high l) (le-max-r (r .high) (q .high)))
+in-hull t {r} {q} h l = pick-all (In (hull r q)) t
+    (between (hull r q) (⊑-trans (min-le-l (r .low) (q .low)) (from-low h)) (⊑-trans (to-high h) (le-max-l (r .high) (q .high))))
+    (between (hull r q) (⊑-trans (min-le-r (r .low) (q .low)) (from-low l)) (⊑-trans (to-high l) (le-max-r (r .high) (q .high))))
 
 pub in-one : (z : ℤ) → In (span z z) z
 in-one z = between (span z z) (⊑-refl z) (⊑-refl z)
+
+-- A state of n values, each in its variable's range; past the last both are 0.
+pub in-bound-of : (n : ℕ) (low high : ℕ → ℤ) (s : State) → length s ≡ n → ((v : ℕ) → v < n → In (span (low v) (high v)) (valueOf s v))
+    → (v : ℕ) → In (boundOf n low high v) (valueOf s v)
+in-bound-of n low high s e h v = go (decLt v n)
+  where
+    go : Dec (v < n) → In (boundOf n low high v) (valueOf s v)
+    go (yes l) = rw (lt-ltb v n l) (h v l)
+    go (no g) = rw (le-ltb v n (omega arith), List·getD-eq-default s (pos 0) {n = v} (omega arith)) (in-one (pos 0))
 
 -- ---- each entry
 

@@ -53,9 +53,9 @@ unfolding countOf
 record-whole size b i l = record-within size (length b) i l
 
 -- Past the last record every field is 0, where the body is whole records.
-records-end : (size : ℕ) (b : List ℕ) (k : ℕ) → length b % size ≡ 0 → countOf size b ≤ k → length b ≤ size * k
+whole-end : (size : ℕ) (b : List ℕ) (k : ℕ) → length b % size ≡ 0 → countOf size b ≤ k → length b ≤ size * k
 unfolding countOf
-records-end size b k w l = omega (arith, div-add-mod (length b) size, w, mul-le-mul-left {m = length b / size} {n = k} size l)
+whole-end size b k w l = omega (arith, div-add-mod (length b) size, w, mul-le-mul-left {m = length b / size} {n = k} size l)
 
 u32-past : (b : List ℕ) (p : ℕ) → length b ≤ p → u32 b p ≡ 0
 unfolding u16 u32
@@ -69,4 +69,4 @@ u32-past b p l = omega (
 
 pub field4-past : (size : ℕ) (b : List ℕ) (k f : ℕ) → length b % size ≡ 0 → countOf size b ≤ k → field4 size b k f ≡ 0
 unfolding field4
-field4-past size b k f w l = u32-past b (size * k + 2 * f) (omega (arith, records-end size b k w l))
+field4-past size b k f w l = u32-past b (size * k + 2 * f) (omega (arith, whole-end size b k w l))

@@ -12,12 +12,12 @@ use Rattle.folder.specs.Tab.{tab, fill}
 use Rattle.folder.proofs.TabLaws.{length-tab, getD-tab, tab-same, tab-own}
 
 module _ {A : Type 0} where
-  pub fill-none : (f : ℕ → A) (d : List A) → d ≡ fill 0 f d
+  fill-none : (f : ℕ → A) (d : List A) → d ≡ fill 0 f d
   unfolding tab
   fill-none f d = refl
 
   -- One element more.
-  pub fill-more : (f : ℕ → A) (d : List A) {i : ℕ} {v : A} {row : List A} → row ≡ fill i f d → v ≡ f i → i < length d → set row i v ≡ fill (i + 1) f d
+  fill-more : (f : ℕ → A) (d : List A) {i : ℕ} {v : A} {row : List A} → row ≡ fill i f d → v ≡ f i → i < length d → set row i v ≡ fill (i + 1) f d
   unfolding tab
   fill-more f d {i} p q l =
       rw (p, q, add-one, drop-cons d i (f i), append-assoc) (set-at (tab i f) (getD d i (f i)) (drop (suc i) d) (f i) i (length-tab i f))

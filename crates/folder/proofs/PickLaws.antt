@@ -1,15 +1,18 @@
--- What holds of both holds of the one that is picked; and a test that is asked only where two numbers are equal.
+-- What holds of each of two, where it is picked, holds of the one that is; and a test that is asked only where two numbers are equal.
 -- Assumes nothing.
 use Prim.Native.Nat.{ℕ}
-use mathlib.Core.Path.{_≡_, sym, _∙_}
+use mathlib.Core.Path.{_≡_, refl, sym, _∙_}
 use mathlib.Core.Bool.{Bool, true, false}
 use borrow.Author.Tests.{eq-eqb, ne-eqb}
 use lib.Dec.{eqb}
 use Rattle.folder.specs.Pick.{pick, implies}
 
+pub pick-by : {A : Type 0} (P : A → Type 0) (b : Bool) {x y : A} → (b ≡ true → P x) → (b ≡ false → P y) → P (pick b x y)
+pick-by P true p q = p refl
+pick-by P false p q = q refl
+
 pub pick-all : {A : Type 0} (P : A → Type 0) (b : Bool) {x y : A} → P x → P y → P (pick b x y)
-pick-all P true p q = p
-pick-all P false p q = q
+pick-all P b p q = pick-by P b (λ e. p) (λ e. q)
 
 -- a is what the code has for k.
 pub when-equal : (n : ℕ) (x : Bool) {a k : ℕ} {t : Bool} → a ≡ k → a ≡ n → t ≡ x → t ≡ implies (eqb k n) x

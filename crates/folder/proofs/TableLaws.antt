@@ -89,14 +89,14 @@ accepted-row : (r : Row) (rs : List Row) → Ways r → outcome (r ∷ rs) ≡ A
 accepted-row r rs (inl q) e = (holds-of r q, sym (passed-of r rs q) ∙ e)
 accepted-row r rs (inr l) e = not-both e (refused-of r rs l)
 
-pub accepted-holds : (rs : List Row) → outcome rs ≡ Accepted → AllHold rs
+accepted-holds : (rs : List Row) → outcome rs ≡ Accepted → AllHold rs
 accepted-holds [] e = none
 accepted-holds (r ∷ rs) e = let h = accepted-row r rs (ways r) e in more (h .0) (accepted-holds rs (h .1))
 
 passes : (r : Row) (rs : List Row) → Holds r → outcome (r ∷ rs) ≡ outcome rs
 passes r rs h = passed-of r rs (all-found (r .ok) (r .count) (h .at))
 
-pub holds-accepted : {rs : List Row} → AllHold rs → outcome rs ≡ Accepted
+holds-accepted : {rs : List Row} → AllHold rs → outcome rs ≡ Accepted
 unfolding outcome
 holds-accepted none = refl
 holds-accepted (more {r = r} {rs = rs} h t) = passes r rs h ∙ holds-accepted t

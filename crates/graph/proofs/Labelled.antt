@@ -2,7 +2,7 @@
 -- Assumes nothing.
 use Prim.Native.Nat.{ℕ, zero, suc, _+_, _<_, _≤_}
 use mathlib.Core.Path.{_≡_, refl, sym, ap, _∙_, subst}
-use mathlib.Core.Bool.{Bool, true, false}
+use mathlib.Core.Bool.{true}
 use mathlib.Core.List.{List}
 use native.Mathlib.Nat.{not-suc-le-zero, le-of-suc-le-suc}
 use native.Mathlib.Omega.{arith}
@@ -10,12 +10,13 @@ use lib.ListN.{length, getD}
 use lib.IntN.{ℤ, pos}
 use Rattle.mdp.specs.Kinds.{Kind}
 use Rattle.mdp.specs.Graph.{Labelled, Valued}
-use Rattle.folder.specs.Pick.{pick}
 use Rattle.folder.specs.Tab.{tab, passing}
+use Rattle.folder.proofs.PickLaws.{pick-by}
 use Rattle.folder.proofs.TabLaws.{length-tab, getD-tab, passing-at, passing-stands}
 use Rattle.expressions.specs.Meaning.{State, valueOf, numberIn, truthIn}
 use Rattle.expressions.specs.Reading.{lookIn}
-use Rattle.expressions.specs.declared.Number.the-variants.{Known, Unknown as Open}
+use Rattle.expressions.specs.declared.Number.{Number}
+use Rattle.expressions.specs.declared.Number.the-variants.{Known}
 use Rattle.expressions.proofs.Bits.{bit-below}
 use Rattle.expressions.proofs.Sound.{Says, SaysT, number-sound, truth-sound, known-is, true-is, false-is, is-true}
 use Rattle.model.specs.Model.{Model, firstRecord}
@@ -76,17 +77,16 @@ module _ (M : Model) (R : ModelRight M) (G : Simulation) (K : ContentRight M G) 
   -- A label says of each variable nothing, or its value in every state that it contains.
   look-says : (n : ℕ) → n < G .nodes → (s : State) → Contains M G n s → (i : ℕ) → Says (look M G n i) (valueOf s i)
   unfolding lookIn
-  look-says n l s c i = go (tracks G n i) refl
+  look-says n l s c i = pick-by (λ (a : Number). Says a (valueOf s i)) (tracks G n i) told (λ t. Says.open-number)
     where
       row : List ℤ
       row = tab (M .variables) (G .label n)
 
-      go : (b : Bool) → tracks G n i ≡ b → Says (pick b (Known (getD row i (pos 0))) Open) (valueOf s i)
-      go true t =
+      told : tracks G n i ≡ true → Says (Known (getD row i (pos 0))) (valueOf s i)
+      told t =
           let p : i < M .variables = tracked-there M G n (K .nodes n l) i t in
           let e : getD row i (pos 0) ≡ valueOf s i = getD-tab (pos 0) (M .variables) (G .label n) i p ∙ sym (c .agrees i p t) in
           subst (λ (z : ℤ). Says (Known (getD row i (pos 0))) z) e Says.known
-      go false t = Says.open-number
 
   module _ (n : ℕ) (l : n < G .nodes) (s : State) (c : Contains M G n s) where
     says-number : (e : ℕ) → Says (numberOf M G n e) (numberIn (M .entries) s e)

@@ -2,11 +2,9 @@
 -- Assumes nothing.
 use Prim.Native.Nat.{ℕ, _+_, _<_, _≤_}
 use mathlib.Core.Path.{_≡_}
-use native.Mathlib.Decide.{decLt}
 use native.Mathlib.Omega.{arith}
-use borrow.Author.Tests.{lt-ltb, le-ltb}
+use borrow.Author.Tests.{lt-ltb}
 use mathlib.Core.List.{List}
-use lib.ListN.{List·getD-eq-default}
 use lib.IntN.{ℤ, pos}
 use Rattle.mdp.specs.Mdp.{Fair}
 use Rattle.mdp.proofs.SumLaws.{sum-more}
@@ -14,7 +12,7 @@ use Rattle.folder.proofs.TabLaws.{length-tab, getD-tab}
 use Rattle.folder.specs.declared.Outcome.the-variants.{Accepted}
 use Rattle.expressions.specs.Meaning.{State, valueOf, numberIn}
 use Rattle.expressions.specs.Ranges.{span}
-use Rattle.expressions.proofs.Interval.{In, in-range, in-inside, in-one}
+use Rattle.expressions.proofs.Interval.{In, in-bound-of, in-range, in-inside}
 use Rattle.model.specs.Model.{Model, modelOf, bound, firstRecord}
 use Rattle.model.specs.Chances.{InRange, next, initialState, mdp}
 use Rattle.model.specs.Valid.{ModelRight}
@@ -26,19 +24,10 @@ module _ (M : Model) where
   unfolding bound
   bound-here v l = rw (lt-ltb v (M .variables) l)
 
-  bound-past : (v : ℕ) → M .variables ≤ v → bound M v ≡ span (pos 0) (pos 0)
-  unfolding bound
-  bound-past v l = rw (le-ltb v (M .variables) l)
-
   -- Every variable of a state in range lies in its bound; past the last, both are 0.
   pub in-bounds : (s : State) → InRange M s → (v : ℕ) → In (bound M v) (valueOf s v)
-  in-bounds s h v = go (decLt v (M .variables))
-    where
-      go : Dec (v < M .variables) → In (bound M v) (valueOf s v)
-      go (yes l) = rw (bound-here v l) (record { low = h .low v l; high = h .high v l })
-      go (no g) =
-          let past : M .variables ≤ v = omega arith in
-          rw (bound-past v past, List·getD-eq-default s (pos 0) {n = v} (omega (arith, h .long))) (in-one (pos 0))
+  unfolding bound
+  in-bounds s h = in-bound-of (M .variables) (M .low) (M .high) s (h .long) (λ v l. record { low = h .low v l; high = h .high v l })
 
   module _ (R : ModelRight M) where
     pub fair : Fair (mdp M)

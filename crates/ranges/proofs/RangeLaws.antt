@@ -4,10 +4,7 @@ use Prim.Native.Nat.{ℕ, _<_, _≤_}
 use mathlib.Core.Path.{_≡_, refl, sym, subst, _∙_}
 use mathlib.Core.List.{List}
 use native.Mathlib.Nat.{lt-trans, le-trans, le-of-lt}
-use native.Mathlib.Decide.{decLt}
-use native.Mathlib.Omega.{arith}
 use borrow.Author.Tests.{lt-ltb, le-ltb}
-use lib.ListN.{List·getD-eq-default}
 use lib.IntN.{ℤ, pos}
 use Rattle.folder.specs.Contents.{countOf, signedField}
 use Rattle.folder.specs.Tab.{tab}
@@ -21,7 +18,7 @@ use Rattle.expressions.specs.Ranges.{span, ranging, boundIn, rangeOf, limits}
 use Rattle.expressions.specs.Right.{Inside}
 use Rattle.expressions.specs.declared.NumberForm.{NumberForm}
 use Rattle.expressions.specs.declared.Range.{Range}
-use Rattle.expressions.proofs.Interval.{In, in-one, in-range}
+use Rattle.expressions.proofs.Interval.{In, in-bound-of, in-range}
 use Rattle.expressions.proofs.Levels.{equal, number-settled}
 use Rattle.expressions.proofs.Related.{number-step}
 use Rattle.expressions.proofs.Small.{small}
@@ -56,17 +53,15 @@ near h i = record { low = small (low-in h) i; high = small (high-in h) i }
 module _ (x y : List ℕ) (based : Based x y) where
   -- The state in which each variable has its least value.
   lowest : State
-  lowest = tab (countOf 6 y) (λ v. boundIn y v .low)
+  lowest = tab (countOf 6 y) (λ v. signedField 6 y v 0)
+
+  each-lowest : (v : ℕ) → v < countOf 6 y → In (span (signedField 6 y v 0) (signedField 6 y v 1)) (valueOf lowest v)
+  unfolding lowest
+  each-lowest v l = rw (getD-tab (pos 0) (countOf 6 y) (λ v. signedField 6 y v 0) v l) (low-in (rw (bound-here y v refl l) (based .ordered v)))
 
   lowest-in : (v : ℕ) → In (boundIn y v) (valueOf lowest v)
-  unfolding lowest
-  lowest-in v = go (decLt v (countOf 6 y))
-    where
-      go : Dec (v < countOf 6 y) → In (boundIn y v) (valueOf lowest v)
-      go (yes h) = rw (getD-tab (pos 0) (countOf 6 y) (λ v. boundIn y v .low) v h) (low-in (based .ordered v))
-      go (no h) =
-          let l : countOf 6 y ≤ v = omega arith in
-          rw (List·getD-eq-default lowest (pos 0) {n = v} (rw length-tab l), ← bound-past y v refl l) (in-one (pos 0))
+  unfolding lowest boundIn
+  lowest-in = in-bound-of (countOf 6 y) (λ v. signedField 6 y v 0) (λ v. signedField 6 y v 1) lowest (length-tab (countOf 6 y) _) each-lowest
 
   range-ordered : (e : ℕ) → Ordered (rangeIn x y e)
   range-ordered e = in-ordered (in-range (entriesOf x) (boundIn y) lowest lowest-in e)

@@ -1,10 +1,9 @@
 -- The figures of an accepted graph: each is at most certainty, the next ones follow from a row that holds the last, and
 -- once two rounds in a row are equal all later ones are.
 -- Assumes nothing.
-use Prim.Native.Nat.{ℕ, zero, suc, _+_, _-_, _*_, _/_, _≤_, _<_}
+use Prim.Native.Nat.{ℕ, zero, suc, _+_, _-_, _*_, _≤_, _<_}
 use native.Mathlib.Omega.{arith}
 use mathlib.Core.Path.{_≡_, refl, sym, ap, _∙_}
-use mathlib.Core.Bool.{Bool, true, false}
 use mathlib.Core.List.{List, [], _++_}
 use mathlib.Core.Logic.{⊎-elim}
 use native.Mathlib.Nat.{eq-or-lt-of-le, le-of-suc-le-suc}
@@ -13,8 +12,8 @@ use lib.ListN.{length, getD, length-append, List·getD-append}
 use Rattle.mdp.specs.Kinds.{Kind, waiting, expanded, covered, target}
 use Rattle.mdp.specs.Graph.{along, again, round, up, figure}
 use Rattle.mdp.proofs.SumLaws.{sum-eq, greatest-eq}
-use Rattle.folder.specs.Pick.{pick}
 use Rattle.folder.specs.Tab.{tab}
+use Rattle.folder.proofs.PickLaws.{pick-all}
 use Rattle.folder.proofs.TabLaws.{length-tab, getD-tab, tab-same}
 use Rattle.model.specs.Model.{Model, modelOf}
 use Rattle.model.specs.Chances.{mdp}
@@ -32,12 +31,8 @@ use Rattle.rounds.proofs.CoverLaws.{source-in}
 
 figure-by-small : (kind best d : ℕ) → 0 < d → best ≤ d * units → figureBy kind best d ≤ units
 unfolding figureBy
-figure-by-small kind best d p l = go (eqb kind 1) (eqb kind 2)
-  where
-    go : (a b : Bool) → pick a ((best + (d - 1)) / d) (pick b 0 units) ≤ units
-    go true b = omega (arith, up-small d best units p l)
-    go false true = omega arith
-    go false false = omega arith
+figure-by-small kind best d p l =
+    pick-all (λ (x : ℕ). x ≤ units) (eqb kind 1) (omega (arith, up-small d best units p l)) (pick-all (λ (x : ℕ). x ≤ units) (eqb kind 2) (omega arith) (omega arith))
 
 module _ {m g : List ℕ} (A : Valid m g) where
   abbrev M : Model

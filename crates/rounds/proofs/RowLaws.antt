@@ -6,12 +6,13 @@ use native.Mathlib.Numerals.{add-one}
 use native.Mathlib.Omega.{arith}
 use mathlib.Core.Path.{_≡_, refl, sym, ap, _∙_}
 use mathlib.Core.Logic.{_⊎_, inl, inr, ⊎-elim}
-use mathlib.Core.Bool.{Bool, true, false}
+use mathlib.Core.Bool.{true}
 use mathlib.Core.List.{List, _++_}
 use borrow.Author.Tests.{eq-eqb, ne-eqb, eqb-true}
 use lib.ListN.{getD, drop}
 use lib.Seq.{drop-at}
 use Rattle.folder.specs.Pick.{pick}
+use Rattle.folder.proofs.PickLaws.{pick-by}
 use Rattle.folder.proofs.ScanLaws.{all-true}
 use Rattle.model.specs.Model.{modelOf}
 use Rattle.graph.specs.Simulation.{simulationOf}
@@ -145,16 +146,16 @@ module _ {m g : List ℕ} (A : Valid m g) where
         (λ e. alike-rounds (suc k) k r s (p ∙ rw (first-even (k + 1) r (omega arith), add-one) refl) (q ∙ rw (second-even (k + 1) s (omega arith) (omega arith), add-sub-cancel) refl) t)
         (parity k)
 
-    reached-by : (t : Bool) → sameFirst (nodesOf m g) a b ≡ t → {x : ℕ} → x ≡ pick t h (k + 1) → Reached k x h r s a b
-    reached-by true e i =
+    at-the-end : sameFirst (nodesOf m g) a b ≡ true → Reached k h h r s a b
+    at-the-end e =
         let f = equal-rounds e in
-        rw i (record {
+        record {
           later = l;
           within = omega arith;
           first = p ∙ first-settled k f r (k + 1) (omega arith) ∙ sym (first-settled k f r h l);
           second = q ∙ second-settled k f s (k + 1) (omega arith) ∙ sym (second-settled k f s h l);
-        })
-    reached-by false e i = rw i (record { later = omega arith; within = omega arith; first = p; second = q })
+        }
 
     pub reached-is : {n x : ℕ} → n ≡ nodesOf m g → x ≡ pick (sameFirst n a b) h (k + 1) → Reached k x h r s a b
-    reached-is e i = reached-by (sameFirst (nodesOf m g) a b) refl (rw e at i)
+    reached-is e i = rw (i, e) (pick-by (λ (x : ℕ). Reached k x h r s a b) (sameFirst (nodesOf m g) a b) at-the-end
+        (λ f. record { later = omega arith; within = omega arith; first = p; second = q }))

@@ -2,7 +2,6 @@
 -- Assumes nothing.
 use Prim.Native.Nat.{ℕ, zero, suc, _+_, _-_, _/_, _%_, _≤_, _<_}
 use mathlib.Core.Path.{_≡_, refl, sym, ap, _∙_}
-use mathlib.Core.Bool.{Bool, true, false}
 use mathlib.Core.List.{List, [], _∷_, _++_, append-assoc}
 use native.Mathlib.Nat.{add-zero}
 use native.Mathlib.Numerals.{add-one, sub-one}
@@ -11,7 +10,7 @@ use borrow.Author.Tests.{lt-ltb, le-ltb}
 use lib.Dec.{ltb}
 use lib.ListN.{length, take, drop, set, getD, length-append, length-take, length-drop}
 use lib.Seq.{paste, paste-zero, paste-suc, length-paste, take-length, set-at, drop-cons, append-snoc, length-take-le, take-at, drop-at, drop-drop}
-use Rattle.folder.specs.Pick.{pick}
+use Rattle.folder.proofs.PickLaws.{pick-all}
 use Rattle.text.specs.Text.{decimalWithin, written, Holds}
 
 -- ---- a word copied byte by byte: i of its bytes stand
@@ -54,11 +53,8 @@ module _ (n : ℕ) where
 pub digits-few : (k n : ℕ) → length (decimalWithin k n) ≤ k
 unfolding decimalWithin
 digits-few zero n = omega arith
-digits-few (suc k) n = by-test (ltb n 10) (digits-few k (n / 10))
-  where
-    by-test : (t : Bool) → length (decimalWithin k (n / 10)) ≤ k → length (pick t ((48 + n) ∷ []) (decimalWithin k (n / 10) ++ ((48 + n % 10) ∷ []))) ≤ suc k
-    by-test true h = omega arith
-    by-test false h = omega (arith, length-append (decimalWithin k (n / 10)) ((48 + n % 10) ∷ []))
+digits-few (suc k) n = pick-all (λ (l : List ℕ). length l ≤ suc k) (ltb n 10) (omega arith)
+    (omega (arith, digits-few k (n / 10), length-append (decimalWithin k (n / 10)) ((48 + n % 10) ∷ [])))
 
 -- ---- nothing written, and one byte more
 pub written-none : (out : List ℕ) (at : ℕ) → out ≡ written out at []

@@ -10,6 +10,7 @@ use lib.Dec.{ltb, leb}
 use lib.IntN.{ℤ, pos, negsuc, negℤ, subℕ, _+ℤ_, _-ℤ_, _*ℤ_, +ℤ-assoc, +ℤ-comm, +ℤ-idr, +ℤ-invl, negℤ-+ℤ, *ℤ-comm, *ℤ-negsuc, sucℤ-*ℤ, zero-*ℤ}
 use lib.Signed.{leZ, mag, _≤ℤ_}
 use Rattle.folder.specs.Pick.{pick}
+use Rattle.folder.proofs.PickLaws.{pick-by}
 use Rattle.folder.proofs.Decides.{Decides, at-mostZ, and-both, both-and}
 use Rattle.whole.specs.Order.{minZ, maxZ, eqZ}
 
@@ -116,11 +117,7 @@ mul-below-r U l a h c p q u v = rw (*ℤ-comm c a) (mul-below U l a h c p q (rw 
 -- ---- the smaller and the larger of two
 
 by-order : (P : ℤ → Type 0) (a b u v : ℤ) → (a ⊑ b → P u) → (b ⊑ a → P v) → P (pick (leZ a b) u v)
-by-order P a b u v f g = go (leZ a b) refl
-  where
-    go : (t : Bool) → leZ a b ≡ t → P (pick t u v)
-    go true e = f (le-more a b e)
-    go false e = g (gt-more a b e)
+by-order P a b u v f g = pick-by P (leZ a b) (λ e. f (le-more a b e)) (λ e. g (gt-more a b e))
 
 -- What holds of a where a is the smaller, and of b where b is, holds of the smaller.
 min-ind : (P : ℤ → Type 0) (a b : ℤ) → (a ⊑ b → P a) → (b ⊑ a → P b) → P (minZ a b)
