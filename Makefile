@@ -1,4 +1,4 @@
-# make            proves the programs and the library, and puts them into build/ (as ./laguipy does when it is first run)
+# make            proves the programs and the library, and puts them into build/, as ./laguipy does when first run
 # make install    puts programs, libraries, header, pkg-config file, Python package and documents below PREFIX
 # make uninstall  takes them away again
 #

@@ -1,5 +1,6 @@
 #!/usr/bin/env bash
-# Makes every model.fold, with its model.names, and graph.fold of examples/ from the text, with tools/fold.py, and the Rust crate's copies.
+# Makes every model.fold, with its model.names, and graph.fold of examples/ from the text, with tools/fold.py, and the
+# Rust crate's copies.
 #   examples/make.sh           writes them
 #   examples/make.sh --check   writes none: says which are not up to date, and exits with 1 if any is not
 set -euo pipefail

@@ -22,6 +22,8 @@ ROOT = os.path.normpath(os.path.join(os.path.dirname(os.path.realpath(__file__))
 DOCUMENTS = ("docs/CLAIMS.md", "docs/AUDIT.md")
 QUOTED = re.compile(r"`([^`]+)`")
 WORD = re.compile(r"[^\s().,;:{}λ→↔≡<≤×+*/=]+")
+DECLARED = re.compile(r"^\s*(?:pub |abbrev |unfoldable |infix\S* \d+ )*([^\s:({]+(?: [^\s:({]+)*) :(?: |$)", re.M)
+ANSWERS = {"Accepted", "Refused"}  # which terms have, and the toolchain declares
 
 
 def files_below(top, endings):
@@ -40,11 +42,10 @@ def text_of(path):
 
 @functools.lru_cache(maxsize=None)
 def declared_in(path):
-    """The names that a source declares: definitions, records with their fields, data with their constructors, functions."""
+    """The names that a source declares: definitions, records and their fields, data and constructors, functions."""
     text = text_of(path)
     if path.endswith(".antt"):
-        found = re.findall(r"^\s*(?:pub |abbrev |unfoldable |infix\S* \d+ )*([^\s:({]+(?: [^\s:({]+)*) :(?: |$)", text, re.M)
-        names = {word for group in found for word in group.split()}
+        names = {word for group in DECLARED.findall(text) for word in group.split()}
         return names | set(re.findall(r"\b(?:record|data|mutual) (\S+)", text))
     if path.endswith((".rt", ".rs")):
         return set(re.findall(r"\b(?:fn|struct|enum|const|mod|type) ([A-Za-z_][A-Za-z0-9_]*)", text)) | set(
@@ -68,7 +69,8 @@ def edits():
         for crate in sorted(os.listdir(top)):
             folder = os.path.join(top, crate, "must-fail" if top.endswith("crates") else "")
             if os.path.isdir(folder):
-                found.setdefault(crate, set()).update(name[:-5] for name in os.listdir(folder) if name.endswith(".edit"))
+                names = [name[:-5] for name in os.listdir(folder) if name.endswith(".edit")]
+                found.setdefault(crate, set()).update(names)
     return found
 
 
@@ -104,7 +106,8 @@ class Scope:
             return None
         name, *fields = re.sub(r"\(.*\)$", "", span).split(" .")
         if " " in name.strip() or "≡" in name:
-            unknown = [w for w in WORD.findall(span) if len(w) > 3 and w not in declared_somewhere() | {"Accepted", "Refused"}]
+            known = declared_somewhere() | ANSWERS
+            unknown = [word for word in WORD.findall(span) if len(word) > 3 and word not in known]
             return f"has names that nothing declares: {', '.join(unknown)}" if unknown else None
         if "::" in name:
             crate, name = name.split("::")

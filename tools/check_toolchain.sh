@@ -1,5 +1,6 @@
 #!/bin/sh
-# The toolchain on the PATH must be the one that TOOLCHAIN names: what is claimed is claimed of proofs that it has checked.
+# The toolchain on the PATH must be the one that TOOLCHAIN names: what is claimed is claimed of proofs that it has
+# checked.
 set -eu
 cd "$(dirname "$0")/.."
 pinned=$(cat TOOLCHAIN)

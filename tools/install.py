@@ -1,7 +1,7 @@
 #!/usr/bin/env python3
 """Installs what stands proved in build/, which `make install` sees to: programs, static and shared library, header,
-pkg-config file, Python package, documents and examples, and share/laguipy/proved, which says what was proved and has the
-sha256 of each library and program. No installed file names the prefix, so that the whole may be copied elsewhere.
+pkg-config file, Python package, documents and examples, and share/laguipy/proved, which says what was proved and has
+the sha256 of each library and program. No installed file names the prefix, so that the whole may be copied elsewhere.
 
   tools/install.py --prefix /usr/local [--destdir STAGE] [--remove]
 """

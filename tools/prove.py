@@ -27,6 +27,7 @@ WANTED = ("check_graph", "laguipy_c")
 PARTS = ("src", "specs", "proofs", "stdin", "stdout", "args", "data")
 JOBS = 4  # crates at a time; they are proved in layers, so that this keeps two cores busy
 SONAME = "liblaguipy.so.0"
+HEAD = "# What was proved, by which toolchain, and the files that came of it: `sha256sum -c` with this checks them.\n"
 
 
 class Failed(Exception):
@@ -204,7 +205,8 @@ def rt(tree, words, progress=None):
     log = os.path.join(BUILD, "log")
     environment = {"RT_JOBS": str(JOBS), **os.environ}
     with open(log, "w", encoding="utf-8") as kept:
-        run = subprocess.Popen(["rt", *words], cwd=tree, env=environment, stdout=subprocess.PIPE, stderr=subprocess.STDOUT)
+        pipes = {"stdout": subprocess.PIPE, "stderr": subprocess.STDOUT}
+        run = subprocess.Popen(["rt", *words], cwd=tree, env=environment, **pipes)
         for text in lines_of(run.stdout, progress):
             kept.write(text + "\n")
             if progress:
@@ -259,8 +261,7 @@ def publish(tree, crates, sources, identity):
     link(static, shared)
     made["lib/liblaguipy.so"] = shared
     facts = [("commit", commit()), ("toolchain", identity), ("sources", sources), ("crates", " ".join(crates))]
-    lines = ["# What was proved, by which toolchain, and the files that came of it. `sha256sum -c` with this file checks them.\n"]
-    lines += [f"# {name} {fact}\n" for name, fact in facts]
+    lines = [HEAD] + [f"# {name} {fact}\n" for name, fact in facts]
     for path, source in made.items():
         target = os.path.join(BUILD, path)
         os.makedirs(os.path.dirname(target), exist_ok=True)

@@ -1,7 +1,7 @@
 #!/usr/bin/env python3
 """Runs the commands of documents and compares what they print. A block that starts with ```console has commands, after
-`$ `, and what each prints, standard error too; a block that starts with ```text NAME is a file of that name. The commands
-of a document run in one folder, which has what the checkout has.
+`$ `, and what each prints, standard error too; a block that starts with ```text NAME is a file of that name. The
+commands of a document run in one folder, which has what the checkout has.
 
   tools/test_guide.py FILE..
 """
@@ -69,9 +69,8 @@ class Document:
     def compare(self, number, command, due):
         self.count += 1
         environment = {**os.environ, "PYTHONDONTWRITEBYTECODE": "1"}
-        run = subprocess.run(
-            ["bash", "-c", command], cwd=self.room, env=environment, stdout=subprocess.PIPE, stderr=subprocess.STDOUT, check=False
-        )
+        pipes = {"stdout": subprocess.PIPE, "stderr": subprocess.STDOUT}
+        run = subprocess.run(["bash", "-c", command], cwd=self.room, env=environment, check=False, **pipes)
         came = run.stdout.decode("utf-8", "replace")
         if came != due:
             self.wrong += 1

@@ -1,6 +1,7 @@
 #!/usr/bin/env bash
-# The Python package, the command line and the installation, on what stands proved: `tools/prove.py --here` after the gate's
-# proofs. The calls, and the rules behind `explain`, are compared with the answers of the independent Rust implementation.
+# The Python package, the command line and the installation, on what stands proved: `tools/prove.py --here` after the
+# gate's proofs. The calls, and the rules behind `explain`, are compared with the answers of the independent Rust
+# implementation.
 set -euo pipefail
 cd "$(dirname "$0")/.."
 

@@ -1,6 +1,6 @@
 #!/usr/bin/env python3
-"""The checks of documents and of the toolchain, shown to fail: each on a copy of the repository's documents with one thing
-wrong."""
+"""The checks of documents and of the toolchain, shown to fail: each on a copy of the repository's documents with one
+thing wrong."""
 import os
 import shutil
 import subprocess
@@ -33,7 +33,8 @@ class Checks(unittest.TestCase):
 
     def run_tool(self, *words, **more):
         line = [os.path.join(self.room, "tools", words[0]), *words[1:]]
-        run = subprocess.run(line, stdout=subprocess.PIPE, stderr=subprocess.STDOUT, check=False, env={**os.environ, **more})
+        pipes = {"stdout": subprocess.PIPE, "stderr": subprocess.STDOUT}
+        run = subprocess.run(line, check=False, env={**os.environ, **more}, **pipes)
         return run.returncode, run.stdout.decode()
 
     def assert_told(self, told, *words, **more):
@@ -74,10 +75,38 @@ class Checks(unittest.TestCase):
     def test_documents(self):
         text = "```text a/b\nx\n```\n\n```console\n$ cat a/b\nx\n$ echo y >&2\ny\n```\n"
         path = os.path.join(self.room, "page.md")
-        for wrong, status in ((text, 0), (text.replace("\ny\n", "\nz\n"), 1), (text.replace("\nx\n", "\nw\n", 1), 1), ("", 1)):
+        output, file = text.replace("\ny\n", "\nz\n"), text.replace("\nx\n", "\nw\n", 1)
+        for wrong, status in ((text, 0), (output, 1), (file, 1), ("", 1)):
             with open(path, "w", encoding="utf-8") as file:
                 file.write(wrong)
             self.assertEqual(self.run_tool("test_guide.py", path)[0], status, wrong)
+
+
+class Sources(unittest.TestCase):
+    WIDEST = 120
+    PLACES = ("bindings/python", "examples", "tools", ".ci", "laguipy", "Makefile")
+
+    def test_lines(self):
+        """No line of Python, shell or make is too wide."""
+        wide, count = [], 0
+        for path in self.files():
+            with open(path, encoding="utf-8") as file:
+                for number, line in enumerate(file, 1):
+                    count += 1
+                    if len(line.rstrip("\n")) > self.WIDEST:
+                        wide.append(f"{os.path.relpath(path, ROOT)}:{number}")
+        self.assertEqual(wide, [])
+        self.assertGreater(count, 5000)
+
+    def files(self):
+        found = []
+        for place in self.PLACES:
+            top = os.path.join(ROOT, place)
+            found += [top] if os.path.isfile(top) else []
+            for folder, _, names in os.walk(top):
+                wanted = [name for name in names if name.endswith((".py", ".sh")) or name == "run"]
+                found += [os.path.join(folder, name) for name in wanted]
+        return found
 
 
 if __name__ == "__main__":

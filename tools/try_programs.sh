@@ -16,7 +16,8 @@ as=
 # Compares what the program prints in a folder with a file.
 compare() { # NAME DIR EXPECTED
     tried=$((tried + 1))
-    if (cd "$2" && timeout 30 $as "$program") >"$room/printed" 2>"$room/said" && [ ! -s "$room/said" ] && cmp -s "$room/printed" "$3"
+    if (cd "$2" && timeout 30 $as "$program") >"$room/printed" 2>"$room/said" &&
+        [ ! -s "$room/said" ] && cmp -s "$room/printed" "$3"
     then
         echo "ok        $1: $(head -n 1 "$3")"
     else

@@ -1,8 +1,9 @@
 #!/usr/bin/env python3
-"""A small explorer: makes a graph folder from a model folder. Each state that is reached becomes a node that tracks every
-variable, so no node is covered, and a model with more states than a graph may have nodes is left with nodes that wait.
+"""A small explorer: makes a graph folder from a model folder. Each state that is reached becomes a node that tracks
+every variable, so no node is covered, and a model with more states than a graph may have nodes is left with nodes
+that wait.
 
-  explore.py DIR [ROUNDS]    reads DIR/model.fold and writes DIR/graph.fold, with values from at most ROUNDS rounds (1000)
+  explore.py DIR [ROUNDS]    reads DIR/model.fold and writes DIR/graph.fold; values come of at most ROUNDS rounds (1000)
 
 It is an example of how a graph comes about. Nothing of it is proved and nothing need be: `laguipy DIR` checks what it
 wrote. It needs Python's package laguipy: PYTHONPATH=bindings/python in a checkout.
@@ -25,7 +26,7 @@ class Explorer:
         self.kinds, self.edges = [], []
 
     def explore(self):
-        """Nodes in the order in which they are reached. What would lead past the last node that fits is left waiting."""
+        """Nodes in the order in which they are reached. What leads past the last node that fits is left waiting."""
         while len(self.kinds) < len(self.states):
             state = self.states[len(self.kinds)]
             edges = self.edges_of(state)
@@ -58,14 +59,14 @@ class Explorer:
         return tuple(laguipy.step(self.data, state, command, branch))
 
     def values(self, rounds):
-        """Values that keep the value rule. From 0 up they are the least, if they settle within so many rounds; else from
-        certainty down, where they may be used after any number of rounds."""
+        """Values that keep the value rule. From 0 up they are the least, if they settle within so many rounds; else
+        from certainty down, where they may be used after any number of rounds."""
         values, settled = self.rounds([CERTAIN if kind != EXPANDED else 0 for kind in self.kinds], rounds)
         return values if settled else self.rounds([CERTAIN] * len(self.kinds), rounds)[0]
 
     def rounds(self, values, rounds):
-        """So many rounds over the nodes, in place, and whether the last changed nothing. A node gets the greatest of its
-        edges' sums, divided by D and rounded up."""
+        """So many rounds over the nodes, in place, and whether the last changed nothing. A node gets the greatest of
+        its edges' sums, divided by D and rounded up."""
         for _ in range(rounds):
             before = list(values)
             for n, kind in enumerate(self.kinds):

@@ -1,9 +1,9 @@
 """Laguipy: a checker of simulation graphs of Markov decision processes.
 
 A model and a graph come as folders of bytes (docs/FORMAT.md). Each call believes nothing of them: it raises `Refusal`
-with the number of the first broken rule and its place (docs/REFUSALS.md), or accepts. No strategy reaches a target of the
-model with a greater chance than the root value of an accepted graph. Values and figures are whole units; CERTAIN units
-are certainty. Every call is proved to answer so, on every input; what is written in Python around it is not.
+with the number of the first broken rule and its place (docs/REFUSALS.md), or accepts. No strategy reaches a target of
+the model with a greater chance than the root value of an accepted graph. Values and figures are whole units; CERTAIN
+units are certainty. Every call is proved to answer so, on every input; what is written in Python around it is not.
 
     >>> import laguipy
     >>> model, graph = open("model.fold", "rb").read(), open("graph.fold", "rb").read()

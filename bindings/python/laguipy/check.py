@@ -1,5 +1,5 @@
-"""`laguipy check`: the report of a model and a graph, by the proved program; or, for files that it does not take, by the
-proved library."""
+"""`laguipy check`: the report of a model and a graph, by the proved program; or, for files that it does not take, by
+the proved library."""
 import os
 import subprocess
 import tempfile
@@ -84,9 +84,8 @@ def remarks(pair, report, command):
     if report.startswith(b"no file"):
         return unreadable(pair)
     if report.startswith(b"too long"):
-        return [f"{path} has more than the {PROGRAM_BYTES} bytes that the check program reads" for path in too_long(pair)] + [
-            f"`{command}` checks it by the library"
-        ]
+        most = f"more than the {PROGRAM_BYTES} bytes that the check program reads"
+        return [f"{path} has {most}" for path in too_long(pair)] + [f"`{command}` checks it by the library"]
     if report.startswith(b"accepted") and pair.readable_again():
         return [f"warning: {line}" for line in pair_warnings(pair)]
     return []

@@ -17,8 +17,8 @@ PROGRAM = "laguipy"
 COMMANDS = ("check", "figures", "model", "graph", "show", "explain")
 
 ABOUT = """\
-Checks simulation graphs of Markov decision processes. What it reports of an accepted graph is proved: no strategy reaches
-a target with a greater chance than the root value.
+Checks simulation graphs of Markov decision processes. What it reports of an accepted graph is proved: no strategy
+reaches a target with a greater chance than the root value.
 
   laguipy [check] DIR        the report on model.fold and graph.fold in DIR; or name the two files
   laguipy figures DIR H..    the chance at worst within H steps, for any H to 10000, of any node
@@ -96,6 +96,10 @@ def nodes_of(args, count):
 
 def is_number(word):
     return word.lstrip("-").isdigit() and not os.path.exists(word)
+
+
+def is_option(word):
+    return word.startswith("-") and word != STANDARD and not is_number(word)
 
 
 def run_figures(args):
@@ -261,8 +265,23 @@ def add_figures(commands):
     command = add(commands, "figures", run_figures, "Prints figures: the chance at worst within H steps.", more)
     command.add_argument("words", nargs="*", metavar="PLACE | H")
     command.add_argument("--upto", type=int, metavar="H", help="for every number of steps from 0 to H")
-    command.add_argument("--nodes", default="0", metavar="all|0,3", help="of these nodes; without it the root's, node 0")
+    command.add_argument("--nodes", default="0", metavar="all|0,3", help="of these nodes; else the root's, node 0")
     command.add_argument("--csv", action="store_true", help="as comma-separated values")
+
+
+def add_explain(commands):
+    about = "Says what a refusal means here, and what to do."
+    command = add(commands, "explain", run_explain, about, "PLACE is as for check.")
+    command.add_argument("places", nargs="*", metavar="PLACE")
+
+
+def add_show(commands):
+    more = "A directory shows its model.fold and graph.fold."
+    command = add(commands, "show", run_show, "Prints a folder as text.", more)
+    command.add_argument("fold", metavar="FOLD", help="a model folder, a graph folder, or a directory")
+    command.add_argument("model", metavar="MODEL", nargs="?", help="the graph's model folder")
+    command.add_argument("--names", metavar="a,d", help="the variables' names, in order")
+    command.add_argument("--entries", action="store_true", help="list a model's entries with their numbers in any case")
 
 
 def add_texts(commands):
@@ -277,20 +296,19 @@ def add_texts(commands):
 
 def parser():
     whole = Parser(
-        prog=PROGRAM, description=ABOUT, epilog=STATUSES, formatter_class=argparse.RawDescriptionHelpFormatter, usage="%(prog)s COMMAND .."
+        prog=PROGRAM,
+        usage="%(prog)s COMMAND ..",
+        description=ABOUT,
+        epilog=STATUSES,
+        formatter_class=argparse.RawDescriptionHelpFormatter,
     )
     whole.add_argument("--version", action=ShowVersion, help="the version, and what was proved")
     commands = whole.add_subparsers(metavar="COMMAND", dest="command", required=True, parser_class=Parser)
     add_check(commands)
     add_figures(commands)
-    command = add(commands, "explain", run_explain, "Says what a refusal means here, and what to do.", "PLACE is as for check.")
-    command.add_argument("places", nargs="*", metavar="PLACE")
+    add_explain(commands)
     add_texts(commands)
-    command = add(commands, "show", run_show, "Prints a folder as text.", "A directory shows its model.fold and graph.fold.")
-    command.add_argument("fold", metavar="FOLD", help="a model folder, a graph folder, or a directory")
-    command.add_argument("model", metavar="MODEL", nargs="?", help="the graph's model folder")
-    command.add_argument("--names", metavar="a,d", help="the variables' names, in order")
-    command.add_argument("--entries", action="store_true", help="list a model's entries with their numbers in any case")
+    add_show(commands)
     return whole
 
 
@@ -311,7 +329,7 @@ def parsed(words):
     whole = parser()
     args, rest = whole.parse_known_args(with_command(words))
     listed = getattr(args, "words", getattr(args, "places", None))
-    wrong = [word for word in rest if listed is None or (word.startswith("-") and word != STANDARD and not is_number(word))]
+    wrong = [word for word in rest if listed is None or is_option(word)]
     if wrong:
         whole.error(f"unrecognized arguments: {' '.join(wrong)}")
     if rest:

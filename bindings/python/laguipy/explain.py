@@ -1,7 +1,7 @@
 """What a refusal means here: which of the causes, where, what is there and what is asked.
 
-The rules behind it are written in Python, apart from the proved library, and prove nothing. The library's answer is asked
-for too, and an explanation that does not agree with it says so.
+The rules behind it are written in Python, apart from the proved library, and prove nothing. The library's answer is
+asked for too, and an explanation that does not agree with it says so.
 """
 from typing import NamedTuple, Optional
 

@@ -284,8 +284,8 @@ def depths(entries):
 
 
 def ranges(entries, variables):
-    """The range of each entry, worked out from those of its parts, which are lower and right; a truth has none. They end
-    with the first that leaves the limits, so that no number grows far past them."""
+    """The range of each entry, worked out from those of its parts, which are lower and right; a truth has none. They
+    end with the first that leaves the limits, so that no number grows far past them."""
     found = []
     for operation, a, b, c in entries:
         if operation == CONSTANT:

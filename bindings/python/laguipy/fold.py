@@ -22,8 +22,8 @@ Writes model and graph folders from text, and prints folders back as text.
 What `show` prints gives the same bytes again. It stands on a right table of contents and on nothing else: a folder
 that breaks a later rule is shown too. Comments give the numbers that a refusal returns as its place.
 
-`laguipy model`, `laguipy graph` and `laguipy show` do the same and check what is written; this tool writes whatever fits
-its fields, checks no rule, and needs no library.
+`laguipy model`, `laguipy graph` and `laguipy show` do the same and check what is written; this tool writes whatever
+fits its fields, checks no rule, and needs no library.
 
 {models.TEXT}
 {graphs.TEXT}

@@ -1,4 +1,4 @@
-"""Folders: their fields, their table of contents, and the models and graphs that they hold. docs/FORMAT.md has the bytes.
+"""Folders: their fields, their table of contents, and the models and graphs that they hold; docs/FORMAT.md has them.
 
 Reading is total where a folder's contents are right: what a later rule forbids is read all the same.
 """
@@ -65,7 +65,8 @@ def contents_fault(data, names, kind):
         start, length = struct.unpack_from("<II", data, CONTENTS_ENTRY * e)
         where = f"contents entry {e} ({name}) is off:"
         if start != due:
-            return e, f"{where} it starts at {start}, and {due} is due in a {kind} folder{other_kind(data, kind, e, start)}"
+            perhaps = other_kind(data, kind, e, start)
+            return e, f"{where} it starts at {start}, and {due} is due in a {kind} folder{perhaps}"
         due = start + length
         if due > len(data):
             return e, f"{where} it ends at {due}, and the folder has {len(data)} bytes"

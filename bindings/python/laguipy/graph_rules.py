@@ -1,4 +1,4 @@
-"""The rules of a graph folder, rows 12 to 25 of the refusals, for explaining: each says what is there and what is asked.
+"""The rules of a graph folder, rows 12 to 25 of the refusals, for explaining: what is there and what is asked.
 
 The model is one that its own rules accept.
 """
@@ -83,7 +83,8 @@ class GraphRules:
         if node.value > CERTAIN:
             return f"holds {node.value}, more than certainty, which is {CERTAIN}"
         if node.kind != COVERED and node.cover:
-            return f"is {KINDS[node.kind]} and names node {node.cover} as its cover: only a covered node has one; write 0"
+            kind = KINDS[node.kind]
+            return f"is {kind} and names node {node.cover} as its cover: only a covered node has one; write 0"
         if node.kind != EXPANDED and node.edges:
             return f"is {KINDS[node.kind]} and has {counted(node.edges, 'edge')}: only an expanded node has edges"
         if node.tracked >> self.shape.variables:
@@ -95,7 +96,8 @@ class GraphRules:
         for v, variable in enumerate(self.model.variables):
             name = self.names.variables[v]
             if not variable.low <= node.concrete[v] <= variable.high:
-                return f"has {name} = {node.concrete[v]} in its concrete label, and {name} lies in {variable.low}..{variable.high}"
+                asked = f"{name} lies in {variable.low}..{variable.high}"
+                return f"has {name} = {node.concrete[v]} in its concrete label, and {asked}"
             if not node.tracks(v) and node.label[v]:
                 return f"does not track {name}, and has {node.label[v]} as its label value: write 0"
         return None
@@ -123,10 +125,12 @@ class GraphRules:
             if command >= len(self.shape.branches):
                 return f"names command {command}, and the model's are 0 to {len(self.shape.branches) - 1}"
             branches = self.shape.branches[command]
-            return f"is cut short: command {command} has {counted(branches, 'branch')}, so it takes {2 + 2 * branches} bytes, and {left} are left"
+            asked = f"command {command} has {counted(branches, 'branch')}, so it takes {2 + 2 * branches} bytes"
+            return f"is cut short: {asked}, and {left} are left"
         for b, successor in enumerate(edge.successors):
             if successor >= len(self.graph.nodes):
-                return f"({self.names.command(edge.command)}) leads to node {successor} by branch {b}, and the nodes are 0 to {len(self.graph.nodes) - 1}"
+                there = f"the nodes are 0 to {len(self.graph.nodes) - 1}"
+                return f"({self.names.command(edge.command)}) leads to node {successor} by branch {b}, and {there}"
         return None
 
     def root(self):
@@ -134,7 +138,8 @@ class GraphRules:
             there = self.graph.nodes[0].concrete[v]
             if there != variable.initial:
                 name = self.names.variables[v]
-                return Finding(17, 0, f"node 0 starts with {name} = {there}, the model with {name} = {variable.initial}", ("node", 0))
+                text = f"node 0 starts with {name} = {there}, the model with {name} = {variable.initial}"
+                return Finding(17, 0, text, ("node", 0))
         return None
 
     # ---- rows 18 to 25, node by node
@@ -170,6 +175,9 @@ class NodeRules:
     def name(self, v):
         return self.names.variables[v]
 
+    def guard(self, c):
+        return self.texts.told(self.model.commands[c].guard)
+
     def unknown_because(self, e):
         """Which variables an expression mentions that the label does not track."""
         loose = [self.name(v) for v in sorted(mentioned(self.model.entries, e)) if not self.node.tracks(v)]
@@ -178,7 +186,8 @@ class NodeRules:
     def a1(self):
         for v in range(len(self.model.variables)):
             if self.node.tracks(v) and self.node.label[v] != self.node.concrete[v]:
-                return f"tracks {self.name(v)} = {self.node.label[v]}, and its concrete value is {self.node.concrete[v]}"
+                concrete = self.node.concrete[v]
+                return f"tracks {self.name(v)} = {self.node.label[v]}, and its concrete value is {concrete}"
         return None
 
     def a2(self):
@@ -210,11 +219,9 @@ class NodeRules:
         missing = [c for c in due if c not in there]
         extra = [c for c in there if c not in due]
         if missing:
-            c = missing[0]
-            why = f"{self.names.command(c)} is enabled there, {self.texts.told(self.model.commands[c].guard)}, and has no edge"
+            why = f"{self.names.command(missing[0])} is enabled there, {self.guard(missing[0])}, and has no edge"
         elif extra:
-            c = extra[0]
-            why = f"{self.names.command(c)} has an edge and is not enabled there, {self.texts.told(self.model.commands[c].guard)}"
+            why = f"{self.names.command(extra[0])} has an edge and is not enabled there, {self.guard(extra[0])}"
         else:
             why = "each enabled command has one edge, lowest command first"
         return f"has edges of commands {listed(there)}, and commands {listed(due)} are due: {why}"
@@ -246,7 +253,8 @@ class NodeRules:
                 return f"{new} is unknown in the label of node {self.n}, {self.unknown_because(e)}"
             if read != node.label[v]:
                 self.advice = "the label value of a tracked variable is the node's concrete value"
-                return f"{new} is {read} in the label of node {self.n}, where the label of node {successor} has {node.label[v]}"
+                there = f"the label of node {successor} has {node.label[v]}"
+                return f"{new} is {read} in the label of node {self.n}, where {there}"
         return None
 
     def cover(self):
@@ -271,7 +279,8 @@ class NodeRules:
         cover = self.cover()
         for v in range(len(self.model.variables)):
             if cover and cover.tracks(v) and self.node.concrete[v] != cover.label[v]:
-                return f"is outside the label of its cover, node {self.node.cover}, which has {self.name(v)} = {cover.label[v]}"
+                asked = f"{self.name(v)} = {cover.label[v]}"
+                return f"is outside the label of its cover, node {self.node.cover}, which has {asked}"
         return None
 
     def c2(self):

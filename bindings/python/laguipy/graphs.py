@@ -250,7 +250,7 @@ def node_line(n, node, names):
 
 
 def show_graph(data, model, names=None):
-    """The text of a graph folder whose table of contents is right, of that model folder; it gives the same bytes again."""
+    """The text of a graph folder of this model; its contents are right. The text gives the same bytes again."""
     shape = shape_of(model)
     graph = read_graph(data, shape)
     names = names_for(read_model(model), names).variables

@@ -91,7 +91,8 @@ def pair_of(places, example):
     if len(places) == 1:
         (place,) = places
         if place == STANDARD or os.path.isfile(place):
-            raise UsageError(f"'{place}' is one file: give the directory that holds model.fold and graph.fold, or both files")
+            asked = "give the directory that holds model.fold and graph.fold, or both files"
+            raise UsageError(f"'{place}' is one file: {asked}")
         if not os.path.isdir(place):
             raise UsageError(f"no directory '{place}'")
         return Pair(os.path.join(place, "model.fold"), os.path.join(place, "graph.fold"))

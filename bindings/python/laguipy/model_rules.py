@@ -1,4 +1,4 @@
-"""The rules of a model folder, rows 1 to 11 of the refusals, for explaining: each says what is there and what is asked."""
+"""The rules of a model folder, rows 1 to 11 of the refusals, for explaining: what is there and what is asked."""
 from .errors import counted
 from .expressions import (
     CONSTANT,
@@ -46,8 +46,8 @@ SUBJECTS = ("total", "variable", "expression", "command", "branch")  # what a bo
 def folder_finding(data):
     """Rows 1 to 3."""
     if not LEAST_MODEL_BYTES <= len(data) <= MODEL_BYTES:
-        text = f"the model has {counted(len(data), 'byte')}, and a model folder has {LEAST_MODEL_BYTES} to {MODEL_BYTES}"
-        return Finding(1, 0, text)
+        there = counted(len(data), "byte")
+        return Finding(1, 0, f"the model has {there}, and a model folder has {LEAST_MODEL_BYTES} to {MODEL_BYTES}")
     fault = contents_fault(data, MODEL_BODIES, "model")
     if fault:
         return Finding(2, fault[0], fault[1])
@@ -56,7 +56,8 @@ def folder_finding(data):
     most = (1, MOST_VARIABLES, MOST_EXPRESSIONS, MOST_COMMANDS, MOST_RECORDS)
     for e, (length, size) in enumerate(zip(lengths, sizes)):
         if length % size:
-            return Finding(3, e, f"the {MODEL_BODIES[e]} have {length} bytes, which is no whole number of records of {size}")
+            text = f"the {MODEL_BODIES[e]} have {length} bytes, which is no whole number of records of {size}"
+            return Finding(3, e, text)
         if not 1 <= length // size <= most[e]:
             allowed = "exactly 1 record" if e == 0 else f"1 to {most[e]}"
             subject = (SUBJECTS[e], most[e]) if e else ()

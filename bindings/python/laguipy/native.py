@@ -1,8 +1,8 @@
 """The proved library's calls. Each believes nothing of its arguments, and answers or raises `Refusal`; refused, a row
 that was lent stays as it was. Calls may be made from any number of threads at once.
 
-Folders are bytes. `bytes` are passed as they are; of anything else that holds bytes (bytearray, memoryview, mmap) a copy
-is taken first, because nobody may write to a folder during a call, and only `bytes` cannot be written to.
+Folders are bytes. `bytes` are passed as they are; of anything else that holds bytes (bytearray, memoryview, mmap) a
+copy is taken first, because nobody may write to a folder during a call, and only `bytes` cannot be written to.
 
 Rows are lent to be written: any writable buffer of unsigned 4-byte (figures) or signed 2-byte (states) elements, as
 array('I'), array('h') or such an array of numpy. They are written where they stand; nobody else may use them during the
@@ -99,7 +99,8 @@ def folder_bytes(data):
     try:
         view = memoryview(data)
     except TypeError:
-        raise TypeError(f"a folder is bytes, or something that holds bytes, and this is {type(data).__name__}") from None
+        own = type(data).__name__
+        raise TypeError(f"a folder is bytes, or something that holds bytes, and this is {own}") from None
     if view.itemsize != 1:
         raise TypeError(f"a folder's elements are bytes, and these have {view.itemsize}")
     return view.obj if isinstance(view.obj, bytes) and view.nbytes == len(view.obj) else view.tobytes()
@@ -188,9 +189,9 @@ def model_check(model):
 
 
 def record_part(model, body, record):
-    """The view: a record of the model folder, by the number of its body (0 terms, 1 variables, 2 expressions, 3 commands, 4
-    branches) and its own, as a memoryview of the folder. It is empty, at the folder's start, where the model check refuses
-    with 1, 2 or 3, or there is no such body or record."""
+    """The view: a record of the model folder, by the number of its body (0 terms, 1 variables, 2 expressions, 3
+    commands, 4 branches) and its own, as a memoryview of the folder. It is empty, at the folder's start, where the
+    model check refuses with 1, 2 or 3, or there is no such body or record."""
     data, part = folder_bytes(model), (SIZE * 2)()
     loaded().laguipy_record_part(*passed(data), size(body, "the body"), size(record, "the record"), part)
     return memoryview(data)[part[0] : part[0] + part[1]]
@@ -213,8 +214,8 @@ def figure_refusal(model, graph, h, first, second):
 
 
 def figure_rows(model, graph, h, first, second):
-    """The figures for h steps, one per node: round h in the first row if h is even, else in the second, and round h - 1 in
-    the other, which is untouched at h = 0. Elements past the node count stay. Refused like `figure`."""
+    """The figures for h steps, one per node: round h in the first row if h is even, else in the second, and round
+    h - 1 in the other, which is untouched at h = 0. Elements past the node count stay. Refused like `figure`."""
     place, rows = SIZE(), two_rows(first, second)
     folders = *passed(folder_bytes(model)), *passed(folder_bytes(graph))
     lent = *rows[0].arguments, *rows[1].arguments
@@ -225,9 +226,9 @@ def figure(model, graph, h, first=None, second=None):
     """The figures for h steps, one per node: the part of a row that holds them, as a memoryview. The rows are left as
     `figure_rows` leaves them; without rows, new ones serve.
 
-    Each figure is an upper bound of the best chance, from that node's concrete state, to reach a target within h steps, and
-    at most h units above it. Refused with the graph check's refusal; then 26 where a node waits, 27 where h is over
-    MOST_STEPS, 28 where a row is shorter than the nodes.
+    Each figure is an upper bound of the best chance, from that node's concrete state, to reach a target within h
+    steps, and at most h units above it. Refused with the graph check's refusal; then 26 where a node waits, 27 where
+    h is over MOST_STEPS, 28 where a row is shorter than the nodes.
     """
     held = [units(MOST_NODES) if row is None else row for row in (first, second)]
     place, part, rows = SIZE(), (SIZE * 2)(), two_rows(*held)
@@ -242,8 +243,8 @@ def step(model, state, command, branch, result=None):
     `result` that holds it. Later elements of `result` stay; without one, a new one serves.
 
     Refused with the model check's refusal; then 29 where the state is not one value per variable or the result row is
-    shorter, 30 where a value is outside its range, 31 where there is no such command, 32 where its guard is false, 33 where
-    it has no such branch.
+    shorter, 30 where a value is outside its range, 31 where there is no such command, 32 where its guard is false, 33
+    where it has no such branch.
     """
     values = state_values(state)
     held = array("h", [0] * MOST_VARIABLES) if result is None else result

@@ -34,8 +34,8 @@ TABLE = {
 
 
 class Readings:
-    """The reading of each entry: a number, a truth, or None where it is unknown. `look` says what is known of a variable.
-    Each entry is read once."""
+    """The reading of each entry: a number, a truth, or None where it is unknown. `look` says what is known of a
+    variable. Each entry is read once."""
 
     def __init__(self, entries, look):
         self.entries = entries

@@ -12,8 +12,8 @@ def percent(units):
 
 
 def figures_for(model, graph, steps):
-    """For each number of steps, ascending, all nodes' figures. A call gives two rounds, h and h - 1, so that of two that
-    follow each other the higher is asked for; once two rounds are equal, so are all later ones."""
+    """For each number of steps, ascending, all nodes' figures. A call gives two rounds, h and h - 1, so that of two
+    that follow each other the higher is asked for; once two rounds are equal, so are all later ones."""
     rows, settled, held = [native.units(MOST_NODES), native.units(MOST_NODES)], None, {}
     nodes = native.graph_check(model, graph).nodes
     ticker = Ticker(len(steps))

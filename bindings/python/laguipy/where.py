@@ -1,5 +1,5 @@
-"""Where the proved programs and the library stand: in the prefix that this package is installed under, or in build/ of a
-checkout. Both have the same folders below: bin, lib, share."""
+"""Where the proved programs and the library stand: in the prefix that this package is installed under, or in build/
+of a checkout. Both have the same folders below: bin, lib, share."""
 import functools
 import os
 

@@ -61,9 +61,10 @@ def damaged_bytes(data, dice):
 
 PIECES = (
     "if", "then", "else", "and", "or", "not", "true", "false", "smaller(", "larger(", "raw(", "branches 3", "none", "S",
-    "total", "variable", "variables", "let", "entries", "target", "command", "node", "edge", "bytes", "contents", "=", "<",
-    "<=", "+", "-", "*", "(", ")", ",", ":", "@9999", "'", "..", "#", "0", "1", "3", "65535", "65536", "-1", "99999999999",
-    "999999999999999999999999", "a", "d", "é", "\u2212", "\t", "\n", "\0", "bytes edges 0", "contents 0 1 2", "kind 9", "set 65535",
+    "total", "variable", "variables", "let", "entries", "target", "command", "node", "edge", "bytes", "contents", "=",
+    "<", "<=", "+", "-", "*", "(", ")", ",", ":", "@9999", "'", "..", "#", "0", "1", "3", "65535", "65536", "-1",
+    "99999999999", "999999999999999999999999", "a", "d", "é", "\u2212", "\t", "\n", "\0", "bytes edges 0",
+    "contents 0 1 2", "kind 9", "set 65535",
 )  # fmt: skip
 
 

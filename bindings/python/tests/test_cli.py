@@ -1,4 +1,4 @@
-"""The command line as it is run: reports, statuses, standard input and output, and what it says when something is wrong."""
+"""The command line as it is run: reports, statuses, standard input and output, and what it says of what is wrong."""
 import json
 import os
 import shutil
@@ -16,7 +16,8 @@ SCAN = os.path.join(EXAMPLES, "scan_loop")
 
 def start(*words, **more):
     """A process of the command line."""
-    return subprocess.run([sys.executable, LAGUIPY, *words], stdout=subprocess.PIPE, stderr=subprocess.PIPE, check=False, **more)
+    more = {"stdout": subprocess.PIPE, "stderr": subprocess.PIPE, "check": False, **more}
+    return subprocess.run([sys.executable, LAGUIPY, *words], **more)
 
 
 class Room(unittest.TestCase):
@@ -58,7 +59,8 @@ class Check(Room):
 
     def test_json(self):
         data = json.loads(run("check", "--json", PEDAL)[1])
-        self.assertEqual((data["nodes"], data["expanded"], data["root"], data["within"][2]), (6, 3, 10_000_000, 10_000_000))
+        self.assertEqual((data["nodes"], data["expanded"], data["root"]), (6, 3, 10_000_000))
+        self.assertEqual(data["within"], [0, 0, 10_000_000, 10_000_000])
         self.assertEqual(len(data["warnings"]), 1)
         data = json.loads(run("check", "--json", os.path.join(EXAMPLES, "refused_22"))[1])
         self.assertEqual((data["number"], data["place"]), (22, 3))
@@ -96,21 +98,23 @@ class Check(Room):
         self.assertEqual(run("figures", model, graph, "50")[1], b"within 50 10000000 1 %\n")
 
     def test_usage(self):
-        for words in (("nowhere",), (PEDAL, "x", "y"), ("--nothing",), (os.path.join(PEDAL, "model.fold"),), (PEDAL, PEDAL)):
+        one = os.path.join(PEDAL, "model.fold")
+        for words in (("nowhere",), (PEDAL, "x", "y"), ("--nothing",), (one,), (PEDAL, PEDAL)):
             status, out, said = run(*words)
             self.assertEqual((status, out), (2, b""), words)
             self.assertTrue(said)
 
     def test_warnings(self):
         """A mistyped guard, a variable that nothing reads, a dead end."""
-        model = "total 1\nvariable a 0..3 = 0\nvariable unread 0..9 = 0\ntarget a = 3\ncommand lost: a = 2\n  1: a' = 3\n"
-        self.path("m/s.model", model)
+        head = "total 1\nvariable a 0..3 = 0\nvariable unread 0..9 = 0\ntarget a = 3\n"
+        self.path("m/s.model", head + "command lost: a = 2\n  1: a' = 3\n")
         self.path("m/s.graph", "node 0 expanded value 0 tracks a state a=0 unread=0\n")
         self.assertEqual(run("model", self.path("m/s.model"))[0], 0)
         self.assertEqual(run("graph", self.path("m/s.graph"))[0], 0)
         status, out, said = run(os.path.join(self.room, "m"))
         self.assertEqual((status, out.split(b"\n")[1]), (0, b"root 0"))
-        for line in ("node 0 is a dead end", "command 0 (lost): its guard, a = 2, is true in no", "variable unread: no expression"):
+        guard = "command 0 (lost): its guard, a = 2, is true in no"
+        for line in ("node 0 is a dead end", guard, "variable unread: no expression"):
             self.assertIn(line, said)
 
 
@@ -148,8 +152,8 @@ class Figures(unittest.TestCase):
         self.assertEqual(run("figures", os.path.join(EXAMPLES, "refused_22"), "3")[:2], (1, b"refused 22 3\n"))
 
     def test_usage(self):
-        for words in ((PEDAL,), (PEDAL, "-1"), (PEDAL, "1", "--nodes", "6"), (PEDAL, "1", "--nodes", "x"), (PEDAL, "--upto", "x")):
-            self.assertEqual(run("figures", *words)[0], 2, words)
+        for words in ((), ("-1",), ("1", "--nodes", "6"), ("1", "--nodes", "x"), ("--upto", "x")):
+            self.assertEqual(run("figures", PEDAL, *words)[0], 2, words)
 
 
 class Texts(Room):
@@ -167,21 +171,22 @@ class Texts(Room):
 
     def test_what_the_proved_check_refuses(self):
         said = {
-            ("9989:", "9984:"): "scan.model:14: command 0 (scan): the weights total 9995, D is 10000 [11]",
-            ("smaller(age + 1, 3)", "age + 1"): "scan.model:16: age + 1 lies in 1..4, age in 0..3: write smaller(age + 1, 3) [10]",
-            ("3 - knob", "2 - knob"): "scan.model:26: 2 - knob lies in -1..2, knob in 0..3: write larger(2 - knob, 0) [10]",
-            ("knob 0..3 = 0", "knob 0..3 = 9"): "scan.model:8: variable knob: its initial value 9 is outside its range 0..3 [4]",
-            ("knob 0..3 = 0", "knob 3..0 = 0"): "scan.model:8: variable knob: its range 3..0 has its bounds crossed [4]",
-            ("age = 3", "age * 30000 * 30000 = 3"): "scan.model:11: age * 30000 * 30000 lies in 0..2700000000, and numbers stay in -1000000..1000000 [6]",
+            ("9989:", "9984:"): "14: command 0 (scan): the weights total 9995, D is 10000 [11]",
+            ("smaller(age + 1, 3)", "age + 1"): "16: age + 1 lies in 1..4, age in 0..3: write smaller(age + 1, 3) [10]",
+            ("3 - knob", "2 - knob"): "26: 2 - knob lies in -1..2, knob in 0..3: write larger(2 - knob, 0) [10]",
+            ("knob 0..3 = 0", "knob 0..3 = 9"): "8: variable knob: its initial value 9 is outside its range 0..3 [4]",
+            ("knob 0..3 = 0", "knob 3..0 = 0"): "8: variable knob: its range 3..0 has its bounds crossed [4]",
+            ("age = 3", "age * 30000 * 30000 = 3"): (
+                "11: age * 30000 * 30000 lies in 0..2700000000, and numbers stay in -1000000..1000000 [6]"
+            ),
         }
         for (old, new), line in said.items():
-            self.assertEqual(self.told(self.scan(old, new)), line)
+            self.assertEqual(self.told(self.scan(old, new)), f"scan.model:{line}")
         deep = "age" + " + age" * 12 + " - age * 12 = 3"
         self.assertIn("[5]", self.told(self.scan("age = 3", deep)))
         many = "".join(f"variable x{i} 0..1 = 0\n" for i in range(14))
-        self.assertEqual(
-            self.told(self.scan("# An old", many + "# An old")), "scan.model:23: there are 17 variables, and 1 to 16 may be [3]"
-        )
+        told = self.told(self.scan("# An old", many + "# An old"))
+        self.assertEqual(told, "scan.model:23: there are 17 variables, and 1 to 16 may be [3]")
 
     def test_anyway(self):
         path = self.scan("9989:", "9984:")
@@ -194,10 +199,12 @@ class Texts(Room):
 
     def test_graph_lines(self):
         text = read(os.path.join(SCAN, "scan.graph"), "r").replace("covered by 0 ", "covered by 6 ")
-        words = ("graph", self.path("scan.graph", text), "-m", os.path.join(SCAN, "model.fold"), "-o", self.path("g.fold"))
+        model = os.path.join(SCAN, "model.fold")
+        words = ("graph", self.path("scan.graph", text), "-m", model, "-o", self.path("g.fold"))
         status, _, said = run(*words)
         self.assertEqual(status, 1)
-        self.assertIn("scan.graph:19: node 5 (age = 0, dead = 0, knob = 3) is covered by node 6, which is itself covered", said)
+        told = "scan.graph:19: node 5 (age = 0, dead = 0, knob = 3) is covered by node 6, which is itself covered"
+        self.assertIn(told, said)
         self.assertFalse(os.path.exists(self.path("g.fold")))
         data = json.loads(run(*words, "--json")[1])
         self.assertEqual((data["number"], data["place"], data["line"]), (22, 5, 19))
@@ -206,7 +213,8 @@ class Texts(Room):
         text = read(os.path.join(SCAN, "scan.model"))
         came = start("model", "-", input=text)
         self.assertEqual((came.returncode, came.stdout), (0, read(os.path.join(SCAN, "model.fold"))))
-        came = start("graph", "-", "-m", os.path.join(SCAN, "model.fold"), "-o", "-", input=read(os.path.join(SCAN, "scan.graph")))
+        model, text = os.path.join(SCAN, "model.fold"), read(os.path.join(SCAN, "scan.graph"))
+        came = start("graph", "-", "-m", model, "-o", "-", input=text)
         self.assertEqual((came.returncode, came.stdout), (0, read(os.path.join(SCAN, "graph.fold"))))
         came = start("show", "-", input=read(os.path.join(PEDAL, "model.fold")))
         self.assertEqual((came.returncode, came.stdout.split()[:2]), (0, [b"total", b"10"]))
@@ -279,13 +287,21 @@ class Explain(unittest.TestCase):
 class Output(unittest.TestCase):
     """What cannot be written is an error, and never `refused`; whoever has read enough may go."""
 
-    WAYS = ((PEDAL,), ("figures", PEDAL, "3"), ("explain", PEDAL), ("show", PEDAL), ("--help",), ("--version",), ("check", "--json", PEDAL))
+    WAYS = (
+        (PEDAL,),
+        ("check", "--json", PEDAL),
+        ("figures", PEDAL, "3"),
+        ("explain", PEDAL),
+        ("show", PEDAL),
+        ("--help",),
+        ("--version",),
+    )
 
     @unittest.skipUnless(os.path.exists("/dev/full"), "no /dev/full")
     def test_no_room(self):
         for words in self.WAYS:
             with open("/dev/full", "wb") as full:
-                came = subprocess.run([sys.executable, LAGUIPY, *words], stdout=full, stderr=subprocess.PIPE, check=False)
+                came = start(*words, stdout=full)
             self.assertEqual(came.returncode, 3, words)
             self.assertIn(b"the output cannot be written: No space left", came.stderr)
             self.assertNotIn(b"Traceback", came.stderr)
@@ -293,7 +309,8 @@ class Output(unittest.TestCase):
     def test_closed(self):
         for words in self.WAYS:
             line = 'exec "$@" >&-'
-            came = subprocess.run(["sh", "-c", line, "sh", sys.executable, LAGUIPY, *words], stderr=subprocess.PIPE, check=False)
+            words = ["sh", "-c", line, "sh", sys.executable, LAGUIPY, *words]
+            came = subprocess.run(words, stderr=subprocess.PIPE, check=False)
             self.assertEqual(came.returncode, 3, words)
             self.assertNotIn(b"Traceback", came.stderr)
 
@@ -301,17 +318,18 @@ class Output(unittest.TestCase):
         for words in self.WAYS:
             end, pipe = os.pipe()
             os.close(end)
-            came = subprocess.run([sys.executable, LAGUIPY, *words, ], stdout=pipe, stderr=subprocess.PIPE, check=False)
+            came = start(*words, stdout=pipe)
             os.close(pipe)
             self.assertEqual(came.returncode, 141, words)
             self.assertNotIn(b"Traceback", came.stderr)
             self.assertNotIn(b"cannot be written", came.stderr)
 
     def test_help_and_version(self):
+        due = [b"laguipy", read(os.path.join(ROOT, "VERSION")).strip()]
         for words in ((), ("check",), ("figures",), ("model",), ("graph",), ("show",), ("explain",)):
             self.assertEqual(run(*words, "--help")[0], 0, words)
             status, out, _ = run(*words, "--version")
-            self.assertEqual((status, out.split()[:2]), (0, [b"laguipy", read(os.path.join(ROOT, "VERSION")).strip()]), words)
+            self.assertEqual((status, out.split()[:2]), (0, due), words)
 
 
 class AtOnce(unittest.TestCase):

@@ -75,7 +75,8 @@ class Arguments(unittest.TestCase):
     """What holds bytes is taken; what would not be safe is refused before the library sees it."""
 
     def test_folders(self):
-        for make in (bytes, bytearray, memoryview, lambda data: memoryview(bytearray(data)), lambda data: array("B", data)):
+        ways = (bytes, bytearray, memoryview, lambda data: memoryview(bytearray(data)), lambda data: array("B", data))
+        for make in ways:
             self.assertEqual(laguipy.graph_check(make(MODEL), make(GRAPH)).root, 10_000_000)
         spread = memoryview(bytes(b for byte in MODEL for b in (byte, 0)))[::2]
         self.assertIsNone(laguipy.model_check(spread))
@@ -159,7 +160,7 @@ class Arguments(unittest.TestCase):
 
 @unittest.skipUnless(os.environ.get("LAGUIPY_ANSWERS"), "LAGUIPY_ANSWERS names no file of answers")
 class Independent(unittest.TestCase):
-    """Every call against the answers of the independent Rust implementation, which `answers` has written, a line each."""
+    """Every call against the answers of the independent Rust implementation, which `answers` has written."""
 
     def test_answers(self):
         count = 0
@@ -215,10 +216,10 @@ class Header(unittest.TestCase):
     def test_limits_and_version(self):
         """The numbers of the header are those of the package."""
         text = read(os.path.join(os.path.dirname(__file__), "..", "..", "..", "include", "laguipy.h"), "r")
-        defined = dict(line.split()[1:3] for line in text.splitlines() if line.startswith("#define LAGUIPY_") and len(line.split()) == 3)
-        names = {"CERTAIN": "CERTAIN", "MOST_NODES": "MOST_NODES", "MOST_VARIABLES": "MOST_VARIABLES", "MOST_STEPS": "MOST_STEPS"}
-        for name, own in {**names, "MODEL_BYTES": "MODEL_BYTES", "GRAPH_BYTES": "GRAPH_BYTES"}.items():
-            self.assertEqual(int(defined[f"LAGUIPY_{name}"]), getattr(laguipy, own), name)
+        words = [line.split() for line in text.splitlines() if line.startswith("#define LAGUIPY_")]
+        defined = {line[1]: line[2] for line in words if len(line) == 3}
+        for name in ("CERTAIN", "MOST_NODES", "MOST_VARIABLES", "MOST_STEPS", "MODEL_BYTES", "GRAPH_BYTES"):
+            self.assertEqual(int(defined[f"LAGUIPY_{name}"]), getattr(laguipy, name), name)
         self.assertEqual(defined["LAGUIPY_VERSION"].strip('"'), laguipy.__version__)
 
 

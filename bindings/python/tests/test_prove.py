@@ -1,5 +1,5 @@
-"""Proving apart from running: when it is proved, by whom, and what is said; with a stand-in for the toolchain that counts.
-What stands proved in build/ serves as what it proves."""
+"""Proving apart from running: when it is proved, by whom, and what is said; with a stand-in for the toolchain that
+counts. What stands proved in build/ serves as what it proves."""
 import os
 import shutil
 import stat
@@ -62,9 +62,8 @@ class Checkout(unittest.TestCase):
 
     def start(self, *words, toolchain=True):
         line = [sys.executable, os.path.join(self.root, "laguipy"), *words]
-        return subprocess.Popen(
-            line, env=self.environment(toolchain), stdout=subprocess.PIPE, stderr=subprocess.PIPE, stdin=subprocess.DEVNULL
-        )
+        pipes = {"stdin": subprocess.DEVNULL, "stdout": subprocess.PIPE, "stderr": subprocess.PIPE}
+        return subprocess.Popen(line, env=self.environment(toolchain), **pipes)
 
     def run_pedal(self, **more):
         running = self.start("-q", os.path.join(self.root, "examples", "pedal"), **more)
@@ -80,7 +79,8 @@ class Checkout(unittest.TestCase):
     def test_once(self):
         came = self.run_pedal()
         self.assert_report(came)
-        for line in ("takes some minutes", "proving 1 of 3: folder, 1 s", "proving 3 of 3: check_graph, 1 s", "laguipy: proved"):
+        crates = ("proving 1 of 3: folder, 1 s", "proving 3 of 3: check_graph, 1 s")
+        for line in ("takes some minutes", *crates, "laguipy: proved"):
             self.assertIn(line, came[2])
         again = self.run_pedal()
         self.assert_report(again)

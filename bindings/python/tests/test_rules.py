@@ -1,4 +1,4 @@
-"""The rules behind `explain` against the answers of the independent Rust implementation, which `answers` has written."""
+"""The rules behind `explain` against the answers of the independent Rust implementation, written by `answers`."""
 import json
 import os
 import unittest

@@ -90,7 +90,8 @@ def random_truth(dice, names, depth):
     if way == 4:
         return f"not ({random_truth(dice, names, depth - 1)})"
     if way < 7:
-        return f"({random_truth(dice, names, depth - 1)} {('and', 'or')[way - 5]} {random_truth(dice, names, depth - 1)})"
+        left, right = random_truth(dice, names, depth - 1), random_truth(dice, names, depth - 1)
+        return f"({left} {('and', 'or')[way - 5]} {right})"
     return dice.choice(("true", "false"))
 
 
@@ -214,7 +215,8 @@ class Slips(unittest.TestCase):
 
     def test_names_are_checked(self):
         model, _ = example("pedal")
-        for text in ("variable a\n", "variable a\nvariable a\n", "variable a\nvariable if\n", "model sha256 00\n", "x\n"):
+        variables = ("variable a\n", "variable a\nvariable a\n", "variable a\nvariable if\n")
+        for text in (*variables, "model sha256 00\n", "x\n"):
             with self.assertRaises(InputError):
                 parse_names(text, read_model(model), model)
         with self.assertRaises(InputError):
