@@ -7,9 +7,10 @@ import tempfile
 from . import native, where
 from .advice import warnings
 from .errors import InputError
+from .files import why
 from .findings import MEANING
 from .folder import read_graph, read_model, shape_of
-from .inputs import STANDARD, Pair
+from .inputs import Pair
 from .limits import PROGRAM_BYTES
 from .output import DONE, REFUSED, RunError
 
@@ -36,17 +37,23 @@ def run_program(folder):
 def program_report(pair):
     """The proved program's report on a pair of files, wherever they stand."""
     folders = {os.path.dirname(os.path.abspath(path)) for path in pair.paths}
-    if tuple(map(os.path.basename, pair.paths)) == NAMES and len(folders) == 1 and STANDARD not in pair.paths:
+    passing = pair.passing()
+    if tuple(map(os.path.basename, pair.paths)) == NAMES and len(folders) == 1 and not passing:
         return run_program(folders.pop())
-    with tempfile.TemporaryDirectory(prefix="laguipy-") as room:
-        for name, path in zip(NAMES, pair.paths):
-            place = os.path.join(room, name)
-            if path == STANDARD:
-                with open(place, "wb") as file:
-                    file.write(pair.bytes_of(path)[: PROGRAM_BYTES + 1])
-            else:
-                os.symlink(os.path.abspath(path), place)
-        return run_program(room)
+    # What comes only once may come to this process alone, as a pipe of the shell does: the program gets a copy.
+    copies = {path: pair.bytes_of(path)[: PROGRAM_BYTES + 1] for path in passing}
+    try:
+        with tempfile.TemporaryDirectory(prefix="laguipy-") as room:
+            for name, path in zip(NAMES, pair.paths):
+                place = os.path.join(room, name)
+                if path in copies:
+                    with open(place, "wb") as file:
+                        file.write(copies[path])
+                else:
+                    os.symlink(os.path.realpath(path), place)
+            return run_program(room)
+    except OSError as error:
+        raise RunError(f"no room for the check program to run in: {why(error)}") from None
 
 
 def library_report(pair):
@@ -86,29 +93,28 @@ def remarks(pair, report, command):
     if report.startswith(b"too long"):
         most = f"more than the {PROGRAM_BYTES} bytes that the check program reads"
         return [f"{path} has {most}" for path in too_long(pair)] + [f"`{command}` checks it by the library"]
-    if report.startswith(b"accepted") and pair.readable_again():
+    if report.startswith(b"accepted"):
         return [f"warning: {line}" for line in pair_warnings(pair)]
     return []
 
 
 def unreadable(pair):
+    """What keeps the files from being read; one that came only once was."""
     found = []
-    for path in pair.paths:
+    for path in dict.fromkeys(pair.paths):
         try:
-            with open(path, "rb") as file:
-                file.read(1)
-        except OSError as error:
-            found.append(f"cannot read {path}: {error.strerror}")
+            if path not in pair.held:
+                with open(path, "rb") as file:
+                    file.read(1)
+        except (OSError, ValueError) as error:
+            found.append(f"cannot read {path}: {why(error)}")
     return found
 
 
 def too_long(pair):
-    found = []
-    for path in pair.paths:
-        long = len(pair.bytes_of(path)) if path == STANDARD else os.path.getsize(path)
-        if long > PROGRAM_BYTES:
-            found.append(path)
-    return found
+    """The files that the check program does not take."""
+    sizes = {path: len(pair.held[path]) if path in pair.held else os.path.getsize(path) for path in pair.paths}
+    return [path for path, size in sizes.items() if size > PROGRAM_BYTES]
 
 
 def pair_warnings(pair):

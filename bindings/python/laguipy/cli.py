@@ -5,11 +5,12 @@ import os
 import sys
 
 from . import check, explain, graphs, models, native, series, texts, where
-from .errors import InputError
+from .errors import InputError, UsageError
+from .files import STANDARD, load, of, save
 from .findings import MEANING
-from .fold import of
-from .inputs import STANDARD, UsageError, load, model_names, pair_of
+from .inputs import model_names, pair_of
 from .limits import MOST_STEPS
+from .names import save_model
 from .output import DONE, REFUSED, USAGE, emit, guarded, say, say_error
 from .version import version
 
@@ -179,7 +180,7 @@ def finish_text(args, out, written, wrong, store):
 def run_model(args):
     written, wrong = texts.model_of(args.file)
     out = texts.default_out(args.file, args.out, "model.fold")
-    return finish_text(args, out, written, wrong, lambda: texts.save_model(out, written, args.file))
+    return finish_text(args, out, written, wrong, lambda: save_model(out, written, args.file))
 
 
 def run_graph(args):
@@ -190,9 +191,7 @@ def run_graph(args):
     say_names(of(model_path, lambda: model_names(model_path, model))[1])
     written, wrong = texts.graph_of(args.file, model_path, model)
     out = texts.default_out(args.file, args.out, "graph.fold")
-    return finish_text(
-        args, out, written, wrong, lambda: texts.save(out, written.data, [args.file, model_path])
-    )
+    return finish_text(args, out, written, wrong, lambda: save(out, written.data, [args.file, model_path]))
 
 
 def run_show(args):

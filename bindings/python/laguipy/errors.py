@@ -21,6 +21,15 @@ class InputError(Exception):
         return found
 
 
+class UsageError(Exception):
+    """The words that a command was given do not fit it."""
+
+
 def counted(count, word):
     """So many of these: `1 branch`, `2 branches`."""
     return f"{count} {word}" + ("" if count == 1 else "es" if word == "branch" else "s")
+
+
+def length_told(length, most):
+    """So many bytes; one that is too long may have been read in part."""
+    return f"over {most} bytes" if length > most else counted(length, "byte")

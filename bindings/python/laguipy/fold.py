@@ -1,11 +1,11 @@
 """The tool that writes folders from text and prints them back, and needs nothing else: tools/fold.py."""
 import argparse
-import os
 
 from . import graphs, models
 from .errors import InputError
+from .files import load, load_text, of, save
 from .folder import read_model, shape_of
-from .names import find_names, names_path, names_text
+from .names import find_names, save_model
 from .output import DONE, emit, guarded
 from .version import version
 
@@ -49,46 +49,6 @@ be a slip of the pen is refused with its line, unless it is said in one of these
 """
 
 
-# ---- files
-
-
-def read_bytes(path):
-    try:
-        with open(path, "rb") as file:
-            return file.read()
-    except (OSError, ValueError) as error:
-        raise InputError(f"cannot be read: {getattr(error, 'strerror', error)}") from None
-
-
-def decoded(data):
-    """The text of these bytes."""
-    try:
-        text = data.decode("utf-8-sig")
-    except UnicodeDecodeError:
-        text = "\0"
-    if "\0" in text:
-        raise InputError("this is not UTF-8 text, or it is a folder")
-    return text
-
-
-def write_bytes(path, data, sources):
-    if os.path.realpath(path) in [os.path.realpath(source) for source in sources]:
-        raise InputError("this would be written over its own source")
-    try:
-        with open(path, "wb") as file:
-            file.write(data)
-    except (OSError, ValueError) as error:
-        raise InputError(f"cannot be written: {getattr(error, 'strerror', error)}") from None
-
-
-def of(path, action):
-    """The action's result; its trouble is one of this file."""
-    try:
-        return action()
-    except InputError as trouble:
-        raise trouble.at(path) from None
-
-
 # ---- the program
 
 
@@ -97,27 +57,24 @@ def report(path, written):
 
 
 def run_model(args):
-    written = of(args.text, lambda: models.write_model(decoded(read_bytes(args.text))))
-    of(args.out, lambda: write_bytes(args.out, written.data, [args.text]))
-    names = names_path(args.out)
-    of(names, lambda: write_bytes(names, names_text(written.names, written.data).encode(), [args.text]))
+    text = load_text(args.text)
+    written = of(args.text, lambda: models.write_model(text))
+    save_model(args.out, written, args.text)
     report(args.out, written)
 
 
 def run_graph(args):
-    text = of(args.text, lambda: decoded(read_bytes(args.text)))
-    model = of(args.model, lambda: read_bytes(args.model))
+    text, model = load_text(args.text), load(args.model)
     of(args.model, lambda: shape_of(model))
     names, _ = find_names(args.model, read_model(model), model)
     written = of(args.text, lambda: graphs.write_graph(text, model, names))
-    of(args.out, lambda: write_bytes(args.out, written.data, [args.text, args.model]))
+    save(args.out, written.data, [args.text, args.model])
     report(args.out, written)
 
 
 def run_show(args):
-    data = of(args.fold, lambda: read_bytes(args.fold))
-    path = args.fold if args.model is None else args.model
-    model = of(path, lambda: read_bytes(path))
+    data = load(args.fold)
+    path, model = (args.fold, data) if args.model is None else (args.model, load(args.model))
     of(path, lambda: shape_of(model))
     names = find_names(path, read_model(model), model)[0] if args.names is None else args.names.split(",")
     if args.model is None:

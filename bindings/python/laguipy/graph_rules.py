@@ -2,7 +2,7 @@
 
 The model is one that its own rules accept.
 """
-from .errors import counted
+from .errors import counted, length_told
 from .expressions import EntryTexts
 from .findings import Finding
 from .folder import (
@@ -54,7 +54,7 @@ class GraphRules:
 
     def folder(self):
         if not LEAST_GRAPH_BYTES <= len(self.data) <= GRAPH_BYTES:
-            there = counted(len(self.data), "byte")
+            there = length_told(len(self.data), GRAPH_BYTES)
             return Finding(12, 0, f"the graph has {there}, and a graph folder has {LEAST_GRAPH_BYTES} to {GRAPH_BYTES}")
         fault = contents_fault(self.data, GRAPH_BODIES, "graph")
         if fault:

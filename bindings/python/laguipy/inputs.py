@@ -1,39 +1,12 @@
-"""The files that a command is given: DIR, or MODEL GRAPH; `-` is standard input."""
+"""The model and the graph that a command is given: DIR, or MODEL GRAPH."""
 import os
-import stat
 import sys
-import tempfile
 
-from .errors import InputError
-from .fold import decoded, of, read_bytes
+from .errors import InputError, UsageError
+from .files import STANDARD, of, passing, read_some
 from .folder import MODEL_BODIES, bodies_of, read_model
+from .limits import GRAPH_BYTES
 from .names import find_names, plain_names
-
-STANDARD = "-"
-
-
-class UsageError(Exception):
-    """The words that a command was given do not fit it."""
-
-
-def standard_input():
-    """All bytes of standard input."""
-    if sys.stdin is None:
-        raise InputError("standard input is closed")
-    try:
-        return sys.stdin.buffer.read()
-    except OSError as error:
-        raise InputError(f"standard input cannot be read: {error.strerror}") from None
-
-
-def load(path):
-    """The bytes of a file, or of standard input."""
-    return standard_input() if path == STANDARD else of(path, lambda: read_bytes(path))
-
-
-def load_text(path):
-    name = "standard input" if path == STANDARD else path
-    return of(name, lambda: decoded(load(path) if path == STANDARD else read_bytes(path)))
 
 
 class Pair:
@@ -48,9 +21,10 @@ class Pair:
         return self.model, self.graph
 
     def bytes_of(self, path):
-        """A file's bytes, read once."""
+        """A file's bytes, read once. Of one that is too long for a graph, and so for a model, a part that is too long
+        as well: it is refused alike."""
         if path not in self.held:
-            self.held[path] = load(path)
+            self.held[path] = of(path, lambda: read_some(path, GRAPH_BYTES))
         return self.held[path]
 
     @property
@@ -61,12 +35,9 @@ class Pair:
     def graph_bytes(self):
         return self.bytes_of(self.graph)
 
-    def readable_again(self):
-        """Whether the files can be read once more after the check program: no pipes."""
-        try:
-            return all(path == STANDARD or stat.S_ISREG(os.stat(path).st_mode) for path in self.paths)
-        except OSError:
-            return False
+    def passing(self):
+        """The files whose bytes come only once."""
+        return [path for path in self.paths if passing(path)]
 
     def names(self):
         """The names that stand beside the model, and what is wrong with them, if anything is."""
@@ -104,36 +75,3 @@ def pair_of(places, example):
         if os.path.isdir(place):
             raise UsageError(f"'{place}' is a directory: give one directory alone, or two files")
     return Pair(*places)
-
-
-def save(path, data, sources):
-    """Writes a file, whole or not at all, so that nothing is lost where there is no room."""
-    real = os.path.realpath(path)
-    if real in [os.path.realpath(source) for source in sources if source != STANDARD]:
-        raise InputError(f"{path}: this would be written over its own source")
-    try:
-        if os.path.exists(real) and not os.path.isfile(real):
-            with open(real, "wb") as file:
-                file.write(data)
-            return
-        handle, new = tempfile.mkstemp(dir=os.path.dirname(real), prefix=".laguipy-")
-        try:
-            with os.fdopen(handle, "wb") as file:
-                file.write(data)
-            os.chmod(new, permissions(real))
-            os.replace(new, real)
-        except BaseException:
-            os.unlink(new)
-            raise
-    except (OSError, ValueError) as error:
-        raise InputError(f"{path}: cannot be written: {getattr(error, 'strerror', error)}") from None
-
-
-def permissions(path):
-    """Those of the file that is replaced, or a new file's."""
-    try:
-        return stat.S_IMODE(os.stat(path).st_mode)
-    except OSError:
-        mask = os.umask(0)
-        os.umask(mask)
-        return 0o666 & ~mask

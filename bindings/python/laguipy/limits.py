@@ -20,3 +20,4 @@ MOST_NODES = 4_096
 MOST_STEPS = 10_000  # of a figure
 
 PROGRAM_BYTES = 65_536  # of each file that the check program reads
+READ_BYTES = 16_777_216  # of a text that is written as a folder, and of a folder that is shown

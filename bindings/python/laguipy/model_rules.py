@@ -1,5 +1,5 @@
 """The rules of a model folder, rows 1 to 11 of the refusals, for explaining: what is there and what is asked."""
-from .errors import counted
+from .errors import counted, length_told
 from .expressions import (
     CONSTANT,
     NUMBER,
@@ -46,7 +46,7 @@ SUBJECTS = ("total", "variable", "expression", "command", "branch")  # what a bo
 def folder_finding(data):
     """Rows 1 to 3."""
     if not LEAST_MODEL_BYTES <= len(data) <= MODEL_BYTES:
-        there = counted(len(data), "byte")
+        there = length_told(len(data), MODEL_BYTES)
         return Finding(1, 0, f"the model has {there}, and a model folder has {LEAST_MODEL_BYTES} to {MODEL_BYTES}")
     fault = contents_fault(data, MODEL_BODIES, "model")
     if fault:

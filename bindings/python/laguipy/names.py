@@ -12,6 +12,7 @@ import hashlib
 import os
 
 from .errors import InputError, counted
+from .files import save, why
 from .text import NAME, RESERVED
 
 MOST_BYTES = 65_536  # of a file of names
@@ -76,6 +77,13 @@ def names_text(names, data):
     return "\n".join(lines) + "\n"
 
 
+def save_model(out, written, source):
+    """A model's folder, and its names beside it; nothing stands beside a device or a pipe."""
+    save(out, written.data, [source])
+    if os.path.isfile(out):
+        save(names_path(out), names_text(written.names, written.data).encode(), [source])
+
+
 def parse_names(text, model, data):
     """The names in a file's text, for the model in the folder `data`."""
     found = {"variable": [], "command": []}
@@ -111,6 +119,8 @@ def add_name(names, words, number):
 def find_names(fold, model, data):
     """The names that stand beside a model folder, and what is wrong with them, if anything is; else plain ones."""
     path = names_path(fold)
+    if os.path.exists(path) and not os.path.isfile(path):
+        return plain_names(model), f"{path}: cannot be read: it is no file"
     try:
         with open(path, "rb") as file:
             text = file.read(MOST_BYTES + 1)
@@ -120,7 +130,7 @@ def find_names(fold, model, data):
     except FileNotFoundError:
         return plain_names(model), None
     except OSError as error:
-        return plain_names(model), f"{path}: cannot be read: {error.strerror}"
+        return plain_names(model), f"{path}: cannot be read: {why(error)}"
     except UnicodeDecodeError:
         return plain_names(model), f"{path}: this is not UTF-8 text"
     except InputError as error:

@@ -5,7 +5,7 @@ import sys
 import time
 import traceback
 
-from .errors import InputError
+from .errors import InputError, UsageError
 
 # Exit statuses.
 DONE = 0  # accepted, or done
@@ -73,6 +73,9 @@ def guarded(program, action):
     except InputError as error:
         say_error(program, error)
         return REFUSED
+    except UsageError as error:
+        say(program, error)
+        return USAGE
     except RunError as error:
         say(program, error)
         return FAILED

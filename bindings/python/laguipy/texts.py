@@ -4,18 +4,13 @@ import os
 from . import native
 from .errors import InputError
 from .findings import MEANING
-from .fold import of
+from .files import STANDARD, load, load_text, named, of
 from .folder import CONTENTS_ENTRY, GRAPH_BODIES, read_graph, read_model, shape_of
 from .graph_rules import graph_finding
 from .graphs import show_graph, write_graph
-from .inputs import STANDARD, load, load_text, model_names, save
+from .inputs import model_names
 from .model_rules import model_finding
 from .models import show_model, write_model
-from .names import names_path, names_text
-
-
-def named(path):
-    return "standard input" if path == STANDARD else path
 
 
 class Wrong(InputError):
@@ -48,7 +43,7 @@ def matching(finding, refusal):
 
 def model_of(path):
     """The model of a text, and what the proved check refuses of it, or None."""
-    written = of(named(path), lambda: write_model(load_text(path)))
+    written = of(path, lambda: write_model(load_text(path)))
     try:
         native.model_check(written.data)
         return written, None
@@ -61,7 +56,7 @@ def graph_of(path, model_path, model):
     """The graph of a text, and what the proved check refuses of it, or None."""
     names, _ = model_names(model_path, model)
     of(model_path, lambda: shape_of(model))
-    written = of(named(path), lambda: write_graph(load_text(path), model, names))
+    written = of(path, lambda: write_graph(load_text(path), model, names))
     try:
         native.graph_check(model, written.data)
         return written, None
@@ -85,12 +80,6 @@ def default_out(path, out, name):
     return STANDARD if path == STANDARD else os.path.join(os.path.dirname(path), name)
 
 
-def save_model(out, written, source):
-    """The folder, and its names beside it."""
-    save(out, written.data, [source])
-    save(names_path(out), names_text(written.names, written.data).encode(), [source])
-
-
 # ---- folders to text
 
 
@@ -108,11 +97,11 @@ def show(fold, model_path, names, entries):
             raise InputError(f"{named(fold)} is a graph folder: name its model folder too, show GRAPH.fold MODEL.fold")
     if model_path is None:
         names = names or model_names(fold, data)[0]
-        return of(named(fold), lambda: show_model(data, names, entries)), model_data(data, names)
+        return of(fold, lambda: show_model(data, names, entries)), model_data(data, names)
     model = load(model_path)
-    of(named(model_path), lambda: shape_of(model))
+    of(model_path, lambda: shape_of(model))
     names = names or model_names(model_path, model)[0]
-    return of(named(fold), lambda: show_graph(data, model, names)), graph_data(data, model)
+    return of(fold, lambda: show_graph(data, model, names)), graph_data(data, model)
 
 
 def model_data(data, names):

@@ -1,6 +1,7 @@
 """The command line as it is run: reports, statuses, standard input and output, and what it says of what is wrong."""
 import json
 import os
+import resource
 import shutil
 import subprocess
 import sys
@@ -225,9 +226,11 @@ class Texts(Room):
         run("model", self.scan("9989:", "9984:"))
         self.assertEqual(read(old), b"old")
         text = self.scan("9989:", "9989:")
-        self.assertEqual(run("model", text, "-o", text)[0], 1)
+        self.assertEqual(run("model", text, "-o", text)[0], 2)
         self.assertIn("total", read(text, "r"))
-        self.assertEqual(run("model", text, "-o", self.path("no/such/folder.fold"))[0], 1)
+        status, out, said = run("model", text, "-o", self.path("no/such/folder.fold"))
+        self.assertEqual((status, out), (3, b""))
+        self.assertIn("folder.fold: cannot be written: No such file", said)
         self.assertEqual([name for name in os.listdir(self.room) if name.startswith(".laguipy")], [])
 
     def test_names_beside_the_model(self):
@@ -251,6 +254,71 @@ class Texts(Room):
             self.assertIn("nodes", json.loads(run("show", "--json", folder)[1])["graph"])
             graph = run("show", os.path.join(folder, "graph.fold"))[1].decode()
             self.assertTrue(graph.startswith("variables "), name)
+
+
+class OddFiles(Room):
+    MODEL, GRAPH = os.path.join(PEDAL, "model.fold"), os.path.join(PEDAL, "graph.fold")
+    REPORT = read(os.path.join(PEDAL, "expected.txt"))
+
+    def test_huge(self):
+        """A file that is far too long is not read whole: there is not the memory for it."""
+        huge = self.path("huge", b"")
+        os.truncate(huge, 5 << 30)
+        texts = "huge: it has over 16777216 bytes"
+        said = {
+            ("check", self.MODEL, huge): (b"too long\n", f"{huge} has more than the 65536 bytes"),
+            ("check", "--any-size", self.MODEL, huge): (b"refused 12 0\n", ""),
+            ("check", "--any-size", huge, huge): (b"refused 1 0\n", ""),
+            ("figures", self.MODEL, huge, "3"): (b"refused 12 0\n", "12: the graph has too few or too many bytes"),
+            ("explain", self.MODEL, huge): (b"refused 12 0\nthe graph has over 1048576 bytes", ""),
+            ("explain", huge, self.GRAPH): (b"refused 1 0\nthe model has over 40000 bytes", ""),
+            ("model", huge): (b"", texts),
+            ("graph", huge, "-m", self.MODEL): (b"", texts),
+            ("graph", os.path.join(PEDAL, "pedal.graph"), "-m", huge): (b"", texts),
+            ("show", huge): (b"", texts),
+        }
+        for words, (out, told) in said.items():
+            came = start(*words, preexec_fn=lambda: resource.setrlimit(resource.RLIMIT_AS, (1 << 30, 1 << 30)))
+            self.assertEqual((came.returncode, came.stdout[: len(out)]), (1, out), (words, came.stderr))
+            self.assertIn(told, came.stderr.decode())
+
+    def test_pipes(self):
+        """Files that come only once, and to this process alone: as <(..) of a shell gives them."""
+        for words in (("check",), ("check", "--any-size")):
+            pipes = [self.pipe(read(path)) for path in (self.MODEL, self.GRAPH)]
+            came = start(*words, *(f"/dev/fd/{end}" for end in pipes), pass_fds=pipes)
+            self.assertEqual((came.returncode, came.stdout), (0, self.REPORT), words)
+            self.assertEqual(came.stderr.count(b"node 1 is a dead end"), 1, words)
+        with open(self.MODEL, "rb") as model:
+            self.assertEqual(start("/dev/stdin", self.GRAPH, stdin=model).stdout, self.REPORT)
+        came = start(f"/dev/fd/{self.pipe(b'')}", self.path("nowhere"))
+        self.assertEqual((came.returncode, came.stdout), (1, b"no file\n"))
+
+    def pipe(self, data):
+        """The end of a pipe that gives these bytes."""
+        end, other = os.pipe()
+        self.addCleanup(os.close, end)
+        os.write(other, data)
+        os.close(other)
+        return end
+
+    def test_nothing_stands_beside_a_pipe(self):
+        place = self.path("pipe")
+        os.mkfifo(place)
+        reader = subprocess.Popen(["cat", place], stdout=subprocess.PIPE)
+        self.assertEqual(run("model", os.path.join(PEDAL, "pedal.model"), "-o", place)[0], 0)
+        self.assertEqual(reader.communicate()[0], read(self.MODEL))
+        self.assertEqual(os.listdir(self.room), ["pipe"])
+
+    def test_names_that_are_no_file(self):
+        for make in (os.mkfifo, os.mkdir):
+            folder = self.path(make.__name__)
+            shutil.copytree(os.path.join(EXAMPLES, "refused_21"), folder)
+            os.remove(os.path.join(folder, "model.names"))
+            make(os.path.join(folder, "model.names"))
+            status, out, said = run("explain", folder)
+            self.assertEqual((status, out.split(b"\n")[0]), (1, b"refused 21 0"))
+            self.assertIn("model.names: cannot be read: it is no file", said)
 
 
 class Explain(unittest.TestCase):
