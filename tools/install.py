@@ -27,9 +27,12 @@ sys.dont_write_bytecode = True
 PREFIX = os.path.dirname(os.path.dirname(os.path.realpath(__file__)))
 sys.path.insert(0, os.path.join(PREFIX, *"{PACKAGES}".split("/")))
 
-from laguipy.cli import main
+try:
+    from laguipy.cli import main
 
-sys.exit(main())
+    sys.exit(main())
+except KeyboardInterrupt:
+    sys.exit(130)
 """
 
 PKG_CONFIG = """\

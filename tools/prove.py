@@ -34,8 +34,15 @@ class Failed(Exception):
     """Why nothing was proved."""
 
 
+def show(text):
+    """Text on standard error, which may be closed or full: then the status tells."""
+    if sys.stderr is not None:
+        with contextlib.suppress(OSError, ValueError):
+            print(text, end="", file=sys.stderr, flush=True)
+
+
 def say(words):
-    print(f"laguipy: {words}", file=sys.stderr, flush=True)
+    show(f"laguipy: {words}\n")
 
 
 # ---- what there is to prove
@@ -57,6 +64,8 @@ def wanted_crates():
     known, levels = dependencies(), {}
 
     def level(name):
+        if name not in known:
+            raise Failed(f"crates.txt has no {name}")
         if name not in levels:
             own = [level(d) for d in known[name] if d in known]
             levels[name] = 1 + max(own, default=-1)
@@ -105,7 +114,8 @@ def toolchain():
 def proved():
     """The facts of build/share/laguipy/proved, and the hash of each file that came of it; nothing if there is none."""
     facts, files = {}, {}
-    with contextlib.suppress(OSError), open(os.path.join(BUILD, PROVED), encoding="utf-8") as file:
+    stamp = os.path.join(BUILD, PROVED)
+    with contextlib.suppress(OSError), open(stamp, encoding="utf-8", errors="replace") as file:
         for line in file:
             words = line.rstrip("\n").split(" ", 2)
             if len(words) == 3 and words[0] == "#":
@@ -176,8 +186,8 @@ class Progress:
     def __init__(self, crates):
         self.crates = crates
         self.count = 0
-        self.began = self.last = time.monotonic()
-        self.live = sys.stderr.isatty()
+        self.began = time.monotonic()
+        self.live = sys.stderr is not None and sys.stderr.isatty()
 
     def line(self, text):
         """A line that rt has printed."""
@@ -188,16 +198,14 @@ class Progress:
         took = "unchanged" if "unchanged" in text else " ".join(words[3:]).strip("()")
         self.clear()
         say(f"proving {self.count} of {len(self.crates)}: {words[1]}, {took}")
-        self.last = time.monotonic()
 
     def waiting(self):
         if self.live:
-            now = time.monotonic()
-            print(f"\rlaguipy: at work, {now - self.began:.0f} s in all \033[K", end="", file=sys.stderr, flush=True)
+            show(f"\rlaguipy: at work, {time.monotonic() - self.began:.0f} s in all \033[K")
 
     def clear(self):
         if self.live:
-            print("\r\033[K", end="", file=sys.stderr, flush=True)
+            show("\r\033[K")
 
 
 def rt(tree, words, progress=None):
@@ -207,17 +215,23 @@ def rt(tree, words, progress=None):
     with open(log, "w", encoding="utf-8") as kept:
         pipes = {"stdout": subprocess.PIPE, "stderr": subprocess.STDOUT}
         run = subprocess.Popen(["rt", *words], cwd=tree, env=environment, **pipes)
-        for text in lines_of(run.stdout, progress):
-            kept.write(text + "\n")
-            if progress:
-                progress.line(text)
-        status = run.wait()
+        try:
+            for text in lines_of(run.stdout, progress):
+                kept.write(text + "\n")
+                if progress:
+                    progress.line(text)
+            status = run.wait()
+        finally:
+            # Where this is interrupted, the checker is not left at work.
+            if run.poll() is None:
+                run.terminate()
+                run.wait()
     if progress:
         progress.clear()
     if status:
         with open(log, encoding="utf-8") as kept:
             errors = [line.rstrip() for line in kept if "error" in line or line.startswith("rt:")]
-        print("\n".join(errors[-20:]), file=sys.stderr)
+        show("".join(f"{error}\n" for error in errors[-20:]))
         raise Failed(f"the program is not proved; {os.path.relpath(log, ROOT)} has all that the checker said")
 
 

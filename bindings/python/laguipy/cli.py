@@ -11,7 +11,7 @@ from .findings import MEANING
 from .inputs import model_names, pair_of
 from .limits import MOST_STEPS
 from .names import save_model
-from .output import DONE, REFUSED, USAGE, emit, guarded, say, say_error
+from .output import DONE, REFUSED, USAGE, emit, guarded, plain, say, say_error
 from .version import version
 
 PROGRAM = "laguipy"
@@ -173,7 +173,7 @@ def finish_text(args, out, written, wrong, store):
         counts = {word: count for count, word in written.counts}
         emit(json.dumps({"answer": "done", "file": out, "bytes": len(written.data), **counts}) + "\n")
     else:
-        emit(f"{out}: {written.told}\n")
+        emit(f"{plain(out)}: {written.told}\n")
     return DONE
 
 
@@ -199,7 +199,7 @@ def run_show(args):
     if args.model is None and os.path.isdir(args.fold):
         folds = [os.path.join(args.fold, name) for name in check.NAMES]
         shown = [texts.show(folds[0], None, names, args.entries), texts.show(folds[1], folds[0], names, False)]
-        text = "".join(f"# {fold}\n{text}" for fold, (text, _) in zip(folds, shown))
+        text = "".join(f"# {plain(fold)}\n{text}" for fold, (text, _) in zip(folds, shown))
         data = {"model": shown[0][1], "graph": shown[1][1]}
     else:
         text, data = texts.show(args.fold, args.model, names, args.entries)

@@ -6,7 +6,7 @@ from .errors import InputError
 from .files import load, load_text, of, save
 from .folder import read_model, shape_of
 from .names import find_names, save_model
-from .output import DONE, emit, guarded
+from .output import DONE, emit, guarded, plain
 from .version import version
 
 HELP = f"""\
@@ -53,7 +53,7 @@ be a slip of the pen is refused with its line, unless it is said in one of these
 
 
 def report(path, written):
-    emit(f"{path}: {written.told}\n")
+    emit(f"{plain(path)}: {written.told}\n")
 
 
 def run_model(args):

@@ -1,12 +1,12 @@
 """The model and the graph that a command is given: DIR, or MODEL GRAPH."""
 import os
-import sys
 
 from .errors import InputError, UsageError
 from .files import STANDARD, of, passing, read_some
 from .folder import MODEL_BODIES, bodies_of, read_model
 from .limits import GRAPH_BYTES
 from .names import find_names, plain_names
+from .output import say
 
 
 class Pair:
@@ -58,7 +58,7 @@ def pair_of(places, example):
     """The pair that the words of a command name; without words the example's."""
     if not places:
         places = [example()]
-        print(f"laguipy: no directory given, so this is {places[0]}", file=sys.stderr)
+        say("laguipy", f"no directory given, so this is {places[0]}")
     if len(places) == 1:
         (place,) = places
         if place == STANDARD or os.path.isfile(place):

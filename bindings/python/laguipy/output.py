@@ -43,10 +43,17 @@ def emit(data):
         raise OutputError(error) from None
 
 
+def plain(text):
+    """Text in one line. What is no letter or sign, as the name of a file may have it, stands as Python writes it."""
+    return "".join(c if c.isprintable() else c.encode("unicode_escape").decode() for c in str(text))
+
+
 def say(program, message):
     """A line for whoever started the program. Where even that cannot be written, the status tells."""
+    if sys.stderr is None:  # closed; print would take standard output
+        return
     try:
-        print(f"{program}: {message}" if program else message, file=sys.stderr, flush=True)
+        print(plain(f"{program}: {message}" if program else message), file=sys.stderr, flush=True)
     except (OSError, ValueError):
         pass
 

@@ -149,7 +149,7 @@ class Line:
 def lines_of(text):
     """The lines that say something, without comments, each as its pieces; one that ends in a comma goes on."""
     held = []
-    for number, line in enumerate(text.replace("\u2212", "-").split("\n"), 1):
+    for number, line in enumerate(re.split("\r\n?|\n", text.replace("\u2212", "-")), 1):
         line = line.split("#", 1)[0].rstrip()
         if not line.strip():
             continue

@@ -51,7 +51,7 @@ def proved_facts():
     """What was proved: the version, commit, toolchain and sources, by their names."""
     facts = {}
     try:
-        with open(os.path.join(needed(), PROVED), encoding="utf-8") as file:
+        with open(os.path.join(needed(), PROVED), encoding="utf-8", errors="replace") as file:
             for line in file:
                 words = line.rstrip("\n").split(" ", 2)
                 if words[0] == "#" and len(words) == 3:

@@ -310,6 +310,34 @@ class OddFiles(Room):
         self.assertEqual(reader.communicate()[0], read(self.MODEL))
         self.assertEqual(os.listdir(self.room), ["pipe"])
 
+    def test_odd_names(self):
+        """Names that are no UTF-8, and names of two lines: each is told in one."""
+        text = read(os.path.join(PEDAL, "pedal.model"))
+        for name, told in ((b"\xff", "\\udcff"), (b"two\nlines", "two\\nlines"), (b"\x1b[31m", "\\x1b[31m")):
+            place = os.path.join(self.room.encode(), name)
+            os.mkdir(place)
+            with open(os.path.join(place, b"m.model"), "wb") as file:
+                file.write(text)
+            for words, status in (
+                (("model", os.path.join(place, b"m.model")), 0),
+                (("show", os.path.join(place, b"model.fold")), 0),
+                (("show", os.path.join(place, b"nowhere")), 1),
+                (("check", place), 1),
+            ):
+                came = start(*words)
+                self.assertEqual(came.returncode, status, (words, came.stderr))
+                for line in (came.stdout + came.stderr).decode().splitlines():
+                    self.assertTrue(line.isprintable(), line)
+                    self.assertEqual(told in line, self.room in line, line)
+
+    def test_line_ends(self):
+        """Text with the line ends of other systems, tabs, and a mark of byte order."""
+        for mark, old, new in ((b"", b"\n", b"\r\n"), (b"", b"\n", b"\r"), (b"\xef\xbb\xbf", b"  ", b"\t")):
+            for name, fold in (("pedal.model", "model.fold"), ("pedal.graph", "graph.fold")):
+                text = mark + read(os.path.join(PEDAL, name)).replace(old, new)
+                self.assertEqual(run(name[6:], self.path(f"m/{name}", text))[0], 0, (new, name))
+                self.assertEqual(read(self.path(f"m/{fold}")), read(os.path.join(PEDAL, fold)), (new, name))
+
     def test_names_that_are_no_file(self):
         for make in (os.mkfifo, os.mkdir):
             folder = self.path(make.__name__)
@@ -381,6 +409,14 @@ class Output(unittest.TestCase):
             came = subprocess.run(words, stderr=subprocess.PIPE, check=False)
             self.assertEqual(came.returncode, 3, words)
             self.assertNotIn(b"Traceback", came.stderr)
+
+    def test_standard_error_closed(self):
+        """What is said beside a report goes nowhere, and not to standard output."""
+        line = ["sh", "-c", 'exec "$@" 2>&-', "sh", sys.executable, LAGUIPY]
+        for words, status in ((("check", PEDAL), 0), ((), 0), (("show", "nowhere"), 1), (("figures", PEDAL), 2)):
+            came = subprocess.run([*line, *words], stdout=subprocess.PIPE, check=False)
+            due = read(os.path.join(PEDAL, "expected.txt")) if status == 0 else b""
+            self.assertEqual((came.returncode, came.stdout), (status, due), words)
 
     def test_pipe_that_is_gone(self):
         for words in self.WAYS:

@@ -2,10 +2,12 @@
 counts. What stands proved in build/ serves as what it proves."""
 import os
 import shutil
+import signal
 import stat
 import subprocess
 import sys
 import tempfile
+import time
 import unittest
 
 from support import ROOT, read
@@ -156,6 +158,33 @@ class Checkout(unittest.TestCase):
         self.assertIn("the program is not proved; build/log has all", came[2])
         os.remove(os.path.join(self.room, "break"))
         self.assert_report(self.run_pedal())
+
+    def test_interrupted(self):
+        """The toolchain is not left at work, and the next run proves."""
+        running = self.start("-q", os.path.join(self.root, "examples", "pedal"))
+        while not self.proofs():
+            time.sleep(0.02)
+        running.send_signal(signal.SIGINT)
+        out, said = running.communicate()
+        self.assertEqual((running.returncode, out), (130, b""))
+        self.assertNotIn(b"Traceback", said)
+        time.sleep(1)
+        self.assertFalse(os.path.exists(os.path.join(self.root, "target/laguipy/target/bin/check_graph")))
+        self.assert_report(self.run_pedal())
+
+    def test_a_stamp_that_is_no_text(self):
+        self.assert_report(self.run_pedal())
+        with open(os.path.join(self.root, "build/share/laguipy/proved"), "wb") as file:
+            file.write(b"# commit \xff\xfe\n")
+        self.assert_report(self.run_pedal())
+        self.assertEqual(self.proofs(), 2)
+
+    def test_standard_error_closed(self):
+        """What is said goes nowhere, and not to standard output; what is proved is proved."""
+        line = ["sh", "-c", 'exec "$@" 2>&-', "sh", sys.executable, os.path.join(self.root, "laguipy")]
+        for _ in range(2):
+            came = subprocess.run(line, env=self.environment(), stdout=subprocess.PIPE, check=False)
+            self.assert_report((came.returncode, came.stdout, ""))
 
     def test_nothing_is_proved_for_help(self):
         for word in ("--help", "--version"):
