@@ -2,6 +2,7 @@
 import argparse
 import json
 import os
+import re
 import sys
 
 from . import check, explain, graphs, models, native, series, texts, where
@@ -9,7 +10,6 @@ from .errors import InputError, UsageError
 from .files import STANDARD, load, of, save
 from .findings import MEANING
 from .inputs import model_names, pair_of
-from .limits import MOST_STEPS
 from .names import save_model
 from .output import DONE, REFUSED, USAGE, emit, guarded, plain, say, say_error
 from .version import version
@@ -68,35 +68,8 @@ def run_explain(args):
     return REFUSED if explanation.number else DONE
 
 
-def steps_of(args, words):
-    """The numbers of steps that are asked for, ascending."""
-    try:
-        steps = {int(word) for word in words}
-    except ValueError:
-        raise UsageError("H is a whole number of steps") from None
-    if args.upto is not None:
-        steps |= set(range(min(args.upto, MOST_STEPS + 1) + 1))
-    if not steps or min(steps) < 0:
-        raise UsageError("say for how many steps: H.. or --upto H, whole numbers from 0")
-    return sorted(steps)
-
-
-def nodes_of(args, count):
-    """The nodes whose figures are asked for."""
-    if args.nodes == "all":
-        return range(count)
-    try:
-        nodes = [int(word) for word in args.nodes.split(",")]
-    except ValueError:
-        raise UsageError("--nodes wants all, or node numbers with commas between") from None
-    for node in nodes:
-        if not 0 <= node < count:
-            raise UsageError(f"there is no node {node}: they are 0 to {count - 1}")
-    return nodes
-
-
 def is_number(word):
-    return word.lstrip("-").isdigit() and not os.path.exists(word)
+    return re.fullmatch("-?[0-9]+", word) is not None and not os.path.exists(word)
 
 
 def is_option(word):
@@ -105,8 +78,14 @@ def is_option(word):
 
 def run_figures(args):
     places = [word for word in args.words if not is_number(word)]
+    for place in places:
+        if place != STANDARD and not os.path.exists(place):
+            raise UsageError(f"{series.shown(place)} is no whole number of steps, and no file or directory")
+    if args.json and args.csv:
+        raise UsageError("--json or --csv, and not both")
+    steps = series.steps_of([word for word in args.words if is_number(word)], args.upto)
+    ranges = series.node_ranges(args.nodes)
     pair = pair_of(places, where.example)
-    steps = steps_of(args, [word for word in args.words if is_number(word)])
     model, graph = pair.model_bytes, pair.graph_bytes
     try:
         summary = native.graph_check(model, graph)
@@ -114,8 +93,9 @@ def run_figures(args):
         native.figure_refusal(model, graph, steps[-1], *rows)
     except native.Refusal as refusal:
         return refused(args, refusal)
-    nodes = nodes_of(args, summary.nodes)
-    write_figures(args, summary, nodes, series.figures_for(model, graph, steps))
+    kind = series.Json if args.json else series.Csv if args.csv else series.Lines
+    form = kind(summary.root, series.nodes_of(ranges, summary.nodes))
+    series.write_figures(form, series.figures_for(model, graph, steps))
     return DONE
 
 
@@ -129,28 +109,6 @@ def refused(args, refusal):
         emit(f"{refusal}\n")
         say(PROGRAM, f"{refusal.number}: {meaning}; `{PROGRAM} explain` says more")
     return REFUSED
-
-
-def write_figures(args, summary, nodes, found):
-    """Writes figures as they come: lines, CSV or JSON."""
-    alone = list(nodes) == [0]
-    if args.csv:
-        emit("h,node,units,percent\n")
-    data = []
-    for h, figures in found:
-        lines = []
-        for node in nodes:
-            units = figures[node]
-            percent = series.percent(units)
-            if args.json:
-                data.append({"h": h, "node": node, "units": units, "percent": percent})
-            elif args.csv:
-                lines.append(f"{h},{node},{units},{percent}\n")
-            else:
-                lines.append(f"within {h}{'' if alone else f' node {node}'} {units} {percent} %\n")
-        emit("".join(lines))
-    if args.json:
-        emit(json.dumps({"answer": "accepted", "root": summary.root, "figures": data}) + "\n")
 
 
 def finish_text(args, out, written, wrong, store):
@@ -259,12 +217,21 @@ def add_check(commands):
     command.add_argument("-q", "--quiet", action="store_true", help="no warnings")
 
 
+FIGURES = """\
+Units are billionths. PLACE is as for check; a graph in which a node waits has no figures.
+
+Figures are written as they come, so that what is interrupted is lost in no part; JSON that is then cut short ends with
+"complete": false. Each number of steps is worked out from the start, so that --upto H takes time in the square of H, up
+to where the figures no longer change. Where it takes long, standard error has how far it has come and an estimate of
+the time that is left.
+"""
+
+
 def add_figures(commands):
-    more = "Units are billionths. PLACE is as for check; a graph in which a node waits has no figures."
-    command = add(commands, "figures", run_figures, "Prints figures: the chance at worst within H steps.", more)
+    command = add(commands, "figures", run_figures, "Prints figures: the chance at worst within H steps.", FIGURES)
     command.add_argument("words", nargs="*", metavar="PLACE | H")
-    command.add_argument("--upto", type=int, metavar="H", help="for every number of steps from 0 to H")
-    command.add_argument("--nodes", default="0", metavar="all|0,3", help="of these nodes; else the root's, node 0")
+    command.add_argument("--upto", metavar="H", help="for every number of steps from 0 to H")
+    command.add_argument("--nodes", default="0", metavar="all|0,3|2-5", help="of these nodes; else the root's, node 0")
     command.add_argument("--csv", action="store_true", help="as comma-separated values")
 
 
@@ -302,7 +269,8 @@ def parser():
         formatter_class=argparse.RawDescriptionHelpFormatter,
     )
     whole.add_argument("--version", action=ShowVersion, help="the version, and what was proved")
-    commands = whole.add_subparsers(metavar="COMMAND", dest="command", required=True, parser_class=Parser)
+    kept = {"metavar": "COMMAND", "dest": "command", "required": True, "parser_class": Parser}
+    commands = whole.add_subparsers(prog=PROGRAM, **kept)
     add_check(commands)
     add_figures(commands)
     add_explain(commands)

@@ -28,16 +28,18 @@ class RunError(Exception):
     """The program cannot do its work: not proved, or a part of it is missing."""
 
 
-def emit(data):
-    """Writes text or bytes to standard output, at once."""
+def emit(*pieces):
+    """Writes pieces of text or bytes to standard output, at once. An interrupt cuts no piece that the buffer holds."""
     try:
         if sys.stdout is None:
             raise OSError(errno.EBADF, os.strerror(errno.EBADF))
         stream = getattr(sys.stdout, "buffer", None)
-        if stream is None:
-            sys.stdout.write(data if isinstance(data, str) else data.decode())
-        else:
-            stream.write(data.encode() if isinstance(data, str) else data)
+        for data in pieces:
+            if stream is None:
+                sys.stdout.write(data if isinstance(data, str) else data.decode())
+            else:
+                stream.write(data.encode() if isinstance(data, str) else data)
+        if stream is not None:
             stream.flush()
     except OSError as error:
         raise OutputError(error) from None
@@ -101,21 +103,40 @@ def guarded(program, action):
         return FAILED
 
 
-class Ticker:
-    """On a terminal, how far a long work has come: at most a line a second, and gone at the end."""
+def is_terminal(stream):
+    return stream is not None and stream.isatty()
 
-    def __init__(self, total, program="laguipy"):
-        self.total, self.program = total, program
+
+class Ticker:
+    """How far a long work has come, on standard error: on a terminal a line each second, which is gone at the end;
+    elsewhere a line each half minute. Nothing where the output itself is seen to come."""
+
+    SECONDS = {True: 1, False: 30}
+
+    def __init__(self, program="laguipy"):
+        self.program = program
+        self.live = is_terminal(sys.stderr)
+        self.silent = is_terminal(sys.stdout)
         self.last = time.monotonic()
         self.shown = False
 
-    def at(self, count):
-        now = time.monotonic()
-        if now - self.last < 1 or sys.stderr is None or not sys.stderr.isatty():
-            return
-        self.last, self.shown = now, True
-        print(f"\r{self.program}: {count} of {self.total} \033[K", end="", file=sys.stderr, flush=True)
+    def due(self):
+        """Whether it is time to tell."""
+        return not self.silent and time.monotonic() - self.last >= self.SECONDS[self.live]
+
+    def tell(self, words):
+        self.last, self.shown = time.monotonic(), True
+        if self.live:
+            self.show(f"\r{self.program}: {words} \033[K")
+        else:
+            say(self.program, words)
 
     def done(self):
-        if self.shown:
-            print("\r\033[K", end="", file=sys.stderr, flush=True)
+        if self.live and self.shown:
+            self.show("\r\033[K")
+
+    def show(self, text):
+        try:
+            print(text, end="", file=sys.stderr, flush=True)
+        except (OSError, ValueError):
+            pass

@@ -3,6 +3,7 @@ import contextlib
 import io
 import os
 import random
+import signal
 import sys
 
 HERE = os.path.dirname(os.path.abspath(__file__))
@@ -86,6 +87,11 @@ def damaged_text(text, dice):
         else:
             text = text[:at] + " " + dice.choice(PIECES) + " " + text[at:]
     return text
+
+
+def interruptible():
+    """For a process that is to be interrupted: one that is started in the background ignores it, unless it is told."""
+    signal.signal(signal.SIGINT, signal.SIG_DFL)
 
 
 def seeded(seed):

@@ -3,12 +3,17 @@ import json
 import os
 import resource
 import shutil
+import signal
 import subprocess
 import sys
 import tempfile
 import unittest
+import unittest.mock
 
-from support import EXAMPLES, ROOT, example, examples, read, run
+from support import EXAMPLES, ROOT, example, examples, interruptible, read, run
+
+from laguipy.output import Ticker
+from laguipy.series import Estimate, calls_for, told_time
 
 LAGUIPY = os.path.join(ROOT, "laguipy")
 PEDAL = os.path.join(EXAMPLES, "pedal")
@@ -36,6 +41,15 @@ class Room(unittest.TestCase):
             with open(path, "wb") as file:
                 file.write(data if isinstance(data, bytes) else data.encode())
         return path
+
+
+    def large(self, folder, text, nodes, state):
+        """A model, and a graph of as many nodes as may be: that of a text and, covered by node 1, many of a state."""
+        more = [f"node {n} covered by 1 value S tracks {state} state {state}\n" for n in range(nodes, 4096)]
+        source = self.path("large.graph", read(os.path.join(folder, text), "r") + "".join(more))
+        paths = os.path.join(folder, "model.fold"), self.path("large.fold")
+        self.assertEqual(run("graph", source, "-m", paths[0], "-o", paths[1])[0], 0)
+        return paths
 
 
 class Check(Room):
@@ -88,11 +102,7 @@ class Check(Room):
         self.assertEqual(run("check", "--any-size", folder)[:2], (1, b"refused 13 1\n"))
 
     def test_a_graph_that_the_program_does_not_take(self):
-        nodes = [f"node {n} covered by 1 value 0 tracks a=3 state a=3 d=0\n" for n in range(6, 4096)]
-        text = read(os.path.join(PEDAL, "pedal.graph"), "r") + "".join(nodes)
-        model = os.path.join(PEDAL, "model.fold")
-        graph = self.path("large.fold")
-        self.assertEqual(run("graph", self.path("large.graph", text), "-m", model, "-o", graph)[0], 0)
+        model, graph = self.large(PEDAL, "pedal.graph", 6, "a=3 d=0")
         self.assertEqual(run(model, graph)[:2], (1, b"too long\n"))
         status, out, _ = run("check", "--any-size", model, graph)
         self.assertEqual((status, out.split()[1]), (0, b"4096"))
@@ -119,7 +129,7 @@ class Check(Room):
             self.assertIn(line, said)
 
 
-class Figures(unittest.TestCase):
+class Figures(Room):
     def lines(self, *words):
         status, out, _ = run("figures", *words)
         self.assertEqual(status, 0)
@@ -135,6 +145,7 @@ class Figures(unittest.TestCase):
         self.assertEqual(self.lines(PEDAL, "--upto", "3", "--csv")[:2], ["h,node,units,percent", "0,0,0,0"])
         data = json.loads("".join(self.lines(PEDAL, "2", "--json")))
         self.assertEqual(data["figures"], [{"h": 2, "node": 0, "units": 10_000_000, "percent": "1"}])
+        self.assertEqual((data["root"], data["complete"]), (10_000_000, True))
 
     def test_every_step_is_the_call_of_its_own(self):
         from laguipy import figure
@@ -151,10 +162,89 @@ class Figures(unittest.TestCase):
         self.assertEqual(run("figures", PEDAL, "10001")[:2], (1, b"refused 27 0\n"))
         self.assertEqual(run("figures", PEDAL, "--upto", "99999")[:2], (1, b"refused 27 0\n"))
         self.assertEqual(run("figures", os.path.join(EXAMPLES, "refused_22"), "3")[:2], (1, b"refused 22 3\n"))
+        for digits in (5, 26, 5000):
+            self.assertEqual(run("figures", PEDAL, "9" * digits)[:2], (1, b"refused 27 0\n"))
+            self.assertEqual(run("figures", PEDAL, "--upto", "9" * digits)[:2], (1, b"refused 27 0\n"))
+        self.assertEqual(self.lines(PEDAL, "0" * 5000 + "3"), ["within 3 10000000 1 %"])
 
     def test_usage(self):
-        for words in ((), ("-1",), ("1", "--nodes", "6"), ("1", "--nodes", "x"), ("--upto", "x")):
-            self.assertEqual(run("figures", PEDAL, *words)[0], 2, words)
+        said = {
+            (): "say for how many steps",
+            ("-1",): "H is a whole number from 0, and this is '-1'",
+            ("nan",): "'nan' is no whole number of steps, and no file or directory",
+            ("\u0663",): "'\u0663' is no whole number of steps",
+            ("--upto", "x"): "--upto H is a whole number from 0, and this is 'x'",
+            ("--upto", "1_0"): "this is '1_0'",
+            ("--upto", "\u0663"): "this is '\u0663'",
+            ("1", "--json", "--csv"): "--json or --csv, and not both",
+        }
+        for words, told in said.items():
+            status, out, line = run("figures", PEDAL, *words)
+            self.assertEqual((status, out), (2, b""), words)
+            self.assertIn(told, line)
+            self.assertLess(len(line), 200)
+
+    def test_nodes(self):
+        some = self.lines(PEDAL, "2", "--nodes", "all")
+        self.assertEqual(self.lines(PEDAL, "2", "--nodes", "2-5"), some[2:])
+        self.assertEqual(self.lines(PEDAL, "2", "--nodes", "5,0-1,3-3,5,0"), [some[5], some[0], some[1], some[3]])
+        said = {
+            "6": "there is no node 6: they are 0 to 5",
+            "4-99999999": "there is no node 6: they are 0 to 5",
+            "9" * 5000: "there is no node so high: they are 0 to 5",
+            "5-2": "'5-2' goes down",
+            "0,x": "nodes as in 0,3 or 2-5, and this is 'x'",
+            "x" * 5000: f"this is '{'x' * 40}..'",
+        }
+        for text in ("", "1-", "-1", "1,,2", " 3", "1_0", "\u0663", "All"):
+            said[text] = f"this is {text.split(',')[1 if ',' in text else 0]!r}"
+        for text, told in said.items():
+            status, out, line = run("figures", PEDAL, "2", f"--nodes={text}")
+            self.assertEqual((status, out), (2, b""), text)
+            self.assertIn(told, line)
+            self.assertLess(len(line), 200)
+
+    def test_interrupted(self):
+        """What came before is there, each row whole, and JSON is ended."""
+        large = self.large(SCAN, "scan.graph", 12, "age=1 dead=0 knob=0")
+        for form in ("--json", "--csv"):
+            words = [sys.executable, LAGUIPY, "figures", *large, "--upto", "10000", "--nodes", "all", form]
+            pipes = {"stdout": subprocess.PIPE, "stderr": subprocess.PIPE, "preexec_fn": interruptible}
+            with subprocess.Popen(words, **pipes) as running:
+                lines = [running.stdout.readline() for _ in range(1000)]
+                running.send_signal(signal.SIGINT)
+                whole = (b"".join(lines) + running.stdout.read()).decode()
+                said = running.stderr.read()
+            self.assertEqual((running.returncode, said), (130, b""))
+            if form == "--json":
+                data = json.loads(whole)
+                self.assertIs(data["complete"], False)
+                came = [(row["h"], row["node"]) for row in data["figures"]]
+            else:
+                self.assertTrue(whole.endswith("\n"))
+                came = [tuple(map(int, line.split(",")[:2])) for line in whole.splitlines()[1:]]
+            self.assertEqual(came, [(n // 4096, n % 4096) for n in range(len(came))])
+            self.assertGreaterEqual(len(came), 999)
+
+    def test_how_far_it_has_come(self):
+        with unittest.mock.patch.dict(Ticker.SECONDS, {False: 0}):
+            status, out, said = run("figures", SCAN, "--upto", "300")
+        self.assertEqual((status, out), (0, run("figures", SCAN, "--upto", "300")[1]))
+        self.assertIn("laguipy: 151 of 300 steps, some ", said)
+        self.assertIn("laguipy: 300 of 300 steps, some 0 s left", said)
+
+    def test_estimate(self):
+        """Where the check takes 2 seconds and each round 3, what is left is just what they add up to."""
+        calls = calls_for([0, 1, 5, 7, 8, 9])
+        self.assertEqual([call.h for call in calls], [1, 5, 8, 9])
+        self.assertEqual([call.steps for call in calls], [(0, 1), (5,), (7, 8), (9,)])
+        estimate = Estimate(calls)
+        estimate.took(1, 2 + 3)
+        self.assertEqual(estimate.left(), 5 * (5 + 8 + 9))
+        for n, call in enumerate(calls[1:], 2):
+            estimate.took(call.h, 2 + 3 * call.h)
+            self.assertAlmostEqual(estimate.left(), sum(2 + 3 * later.h for later in calls[n:]))
+        self.assertEqual([told_time(s) for s in (7.4, 99, 600, 7200)], ["7 s", "99 s", "10 min", "2.0 h"])
 
 
 class Texts(Room):

@@ -10,7 +10,7 @@ import tempfile
 import time
 import unittest
 
-from support import ROOT, read
+from support import ROOT, interruptible, read
 
 STAND_IN = """\
 #!/bin/sh
@@ -65,7 +65,7 @@ class Checkout(unittest.TestCase):
     def start(self, *words, toolchain=True):
         line = [sys.executable, os.path.join(self.root, "laguipy"), *words]
         pipes = {"stdin": subprocess.DEVNULL, "stdout": subprocess.PIPE, "stderr": subprocess.PIPE}
-        return subprocess.Popen(line, env=self.environment(toolchain), **pipes)
+        return subprocess.Popen(line, env=self.environment(toolchain), preexec_fn=interruptible, **pipes)
 
     def run_pedal(self, **more):
         running = self.start("-q", os.path.join(self.root, "examples", "pedal"), **more)
