@@ -1,13 +1,15 @@
 """The command line: `laguipy --help`."""
 import argparse
+import difflib
 import json
 import os
 import re
+import shlex
 import sys
 
 from . import check, explain, graphs, models, native, series, texts, where
 from .errors import InputError, UsageError
-from .files import STANDARD, load, of, save
+from .files import STANDARD, at_most_one_standard, load, of, save
 from .findings import MEANING
 from .inputs import model_names, pair_of
 from .names import save_model
@@ -48,7 +50,7 @@ def run_check(args):
     pair = pair_of(args.places, where.example)
     report = check.full_report(pair, args.any_size)
     status = check.status_of(report)
-    again = " ".join([PROGRAM, "check", "--any-size", *args.places])
+    again = " ".join([PROGRAM, "check", "--any-size", *map(shlex.quote, args.places)])
     notes = [] if args.quiet else check.remarks(pair, report, again)
     if args.json:
         emit(json.dumps(check.report_data(report, notes)) + "\n")
@@ -113,6 +115,8 @@ def refused(args, refusal):
 
 def finish_text(args, out, written, wrong, store):
     """Stores what a text gave, if it is right or wanted all the same, and says what it is."""
+    if args.json and out == STANDARD:
+        raise UsageError("with --json standard output has no room for the folder: name its file with -o")
     if wrong and not args.anyway:
         if args.json:
             emit(json.dumps(wrong.data()) + "\n")
@@ -145,6 +149,7 @@ def run_graph(args):
     model_path = args.model
     if model_path is None:
         model_path = os.path.join(os.path.dirname(args.file) if args.file != STANDARD else "", "model.fold")
+    at_most_one_standard(args.file, model_path)
     model = load(model_path)
     say_names(of(model_path, lambda: model_names(model_path, model))[1])
     written, wrong = texts.graph_of(args.file, model_path, model)
@@ -154,13 +159,15 @@ def run_graph(args):
 
 def run_show(args):
     names = args.names.split(",") if args.names is not None else None
+    at_most_one_standard(args.fold, args.model)
     if args.model is None and os.path.isdir(args.fold):
         folds = [os.path.join(args.fold, name) for name in check.NAMES]
-        shown = [texts.show(folds[0], None, names, args.entries), texts.show(folds[1], folds[0], names, False)]
-        text = "".join(f"# {plain(fold)}\n{text}" for fold, (text, _) in zip(folds, shown))
-        data = {"model": shown[0][1], "graph": shown[1][1]}
+        model, graph = texts.show(folds[0], None, names, args.entries), texts.show(folds[1], folds[0], names, False)
+        text = "".join(f"# {plain(fold)}\n{shown.text}" for fold, shown in zip(folds, (model, graph)))
+        data, wrong = {"model": model.data, "graph": graph.data}, model.wrong
     else:
-        text, data = texts.show(args.fold, args.model, names, args.entries)
+        text, data, wrong = texts.show(args.fold, args.model, names, args.entries)
+    say_names(wrong)
     emit(json.dumps(data) + "\n" if args.json else text)
     return DONE
 
@@ -281,9 +288,13 @@ def parser():
 
 def with_command(words):
     """`laguipy DIR` is `laguipy check DIR`."""
-    if not words or (words[0] not in COMMANDS and words[0] not in ("-h", "--help", "--version")):
-        return ["check", *words]
-    return list(words)
+    if words and words[0] in (*COMMANDS, "-h", "--help", "--version"):
+        return list(words)
+    if words and not os.path.exists(words[0]):
+        near = difflib.get_close_matches(words[0], COMMANDS, 1)
+        if near:
+            raise UsageError(f"there is no command {words[0]!r}: did you mean {near[0]!r}?")
+    return ["check", *words]
 
 
 def needs_nothing(words):

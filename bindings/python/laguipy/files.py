@@ -25,6 +25,12 @@ def of(path, action):
         raise trouble.at(named(path)) from None
 
 
+def at_most_one_standard(*paths):
+    """Refuses words that would read standard input twice."""
+    if paths.count(STANDARD) > 1:
+        raise UsageError("only one file can be standard input")
+
+
 def why(error):
     """What went wrong with a file: a path with a NUL byte is a ValueError."""
     return getattr(error, "strerror", None) or error

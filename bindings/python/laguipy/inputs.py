@@ -2,7 +2,7 @@
 import os
 
 from .errors import InputError, UsageError
-from .files import STANDARD, of, passing, read_some
+from .files import STANDARD, at_most_one_standard, of, passing, read_some
 from .folder import MODEL_BODIES, bodies_of, read_model
 from .limits import GRAPH_BYTES
 from .names import find_names, plain_names
@@ -69,8 +69,7 @@ def pair_of(places, example):
         return Pair(os.path.join(place, "model.fold"), os.path.join(place, "graph.fold"))
     if len(places) > 2:
         raise UsageError("one directory, or a model and a graph, and no more")
-    if list(places).count(STANDARD) > 1:
-        raise UsageError("only one file can be standard input")
+    at_most_one_standard(*places)
     for place in places:
         if os.path.isdir(place):
             raise UsageError(f"'{place}' is a directory: give one directory alone, or two files")

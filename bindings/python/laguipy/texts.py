@@ -1,8 +1,9 @@
 """`laguipy model`, `graph` and `show`: text to folders that the proved library has checked, and folders to text."""
 import os
+from typing import NamedTuple, Optional
 
 from . import native
-from .errors import InputError
+from .errors import InputError, UsageError
 from .findings import MEANING
 from .files import STANDARD, load, load_text, named, of
 from .folder import CONTENTS_ENTRY, GRAPH_BODIES, read_graph, read_model, shape_of
@@ -11,6 +12,7 @@ from .graphs import show_graph, write_graph
 from .inputs import model_names
 from .model_rules import model_finding
 from .models import show_model, write_model
+from .names import names_for
 
 
 class Wrong(InputError):
@@ -88,29 +90,47 @@ def is_graph(data):
     return data[:4] == (CONTENTS_ENTRY * len(GRAPH_BODIES)).to_bytes(4, "little")
 
 
+class Shown(NamedTuple):
+    """A folder as text and as data, and what is wrong with the names beside its model, if anything is."""
+
+    text: str
+    data: dict
+    wrong: Optional[str]
+
+
 def show(fold, model_path, names, entries):
-    """The text of a folder, and the folder as data."""
+    """A folder: a model's, or a graph's with that of its model."""
     data = load(fold)
     if model_path is None and is_graph(data):
         model_path = os.path.join(os.path.dirname(fold), "model.fold") if fold != STANDARD else None
         if model_path is None or not os.path.isfile(model_path):
             raise InputError(f"{named(fold)} is a graph folder: name its model folder too, show GRAPH.fold MODEL.fold")
     if model_path is None:
-        names = names or model_names(fold, data)[0]
-        return of(fold, lambda: show_model(data, names, entries)), model_data(data, names)
+        of(fold, lambda: shape_of(data))
+        names, wrong = names_shown(fold, data, names)
+        return Shown(of(fold, lambda: show_model(data, names, entries)), model_data(data, names), wrong)
     model = load(model_path)
     of(model_path, lambda: shape_of(model))
-    names = names or model_names(model_path, model)[0]
-    return of(fold, lambda: show_graph(data, model, names)), graph_data(data, model)
+    names, wrong = names_shown(model_path, model, names)
+    return Shown(of(fold, lambda: show_graph(data, model, names)), graph_data(data, model), wrong)
+
+
+def names_shown(path, model, given):
+    """The names that a command was given, or those beside the model folder and what is wrong with them."""
+    if given is None:
+        return model_names(path, model)
+    try:
+        return names_for(read_model(model), given), None
+    except InputError as error:
+        raise UsageError(error.message) from None
 
 
 def model_data(data, names):
     model = read_model(data)
-    given = names.variables if hasattr(names, "variables") else names
     return {
         "total": model.total,
         "target": model.target,
-        "variables": [{"name": given[v], **variable._asdict()} for v, variable in enumerate(model.variables)],
+        "variables": [{"name": names.variables[v], **variable._asdict()} for v, variable in enumerate(model.variables)],
         "expressions": [list(entry) for entry in model.entries],
         "commands": [command._asdict() for command in model.commands],
         "branches": [{"weight": branch.weight, "assigned": list(branch.assigned)} for branch in model.branches],

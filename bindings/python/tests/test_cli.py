@@ -94,11 +94,11 @@ class Check(Room):
 
     def test_too_long(self):
         model, graph = example("pedal")
-        folder = os.path.dirname(self.path("big/graph.fold", graph + bytes(65_537 - len(graph))))
-        self.path("big/model.fold", model)
+        folder = os.path.dirname(self.path("too big/graph.fold", graph + bytes(65_537 - len(graph))))
+        self.path("too big/model.fold", model)
         status, out, said = run(folder)
         self.assertEqual((status, out), (1, b"too long\n"))
-        self.assertIn(f"laguipy check --any-size {folder}", said)
+        self.assertIn(f"laguipy check --any-size '{folder}'", said)
         self.assertEqual(run("check", "--any-size", folder)[:2], (1, b"refused 13 1\n"))
 
     def test_a_graph_that_the_program_does_not_take(self):
@@ -344,6 +344,36 @@ class Texts(Room):
             self.assertIn("nodes", json.loads(run("show", "--json", folder)[1])["graph"])
             graph = run("show", os.path.join(folder, "graph.fold"))[1].decode()
             self.assertTrue(graph.startswith("variables "), name)
+
+
+    def test_names_that_do_not_fit_are_told(self):
+        folder = self.path("copy")
+        shutil.copytree(PEDAL, folder)
+        self.path("copy/model.names", "variable x\n")
+        told = "model.names: 1 variable named, and the model has 2; v0, v1 and so on stand for names"
+        for words in ((folder,), (os.path.join(folder, "model.fold"),), (os.path.join(folder, "graph.fold"),)):
+            status, out, said = run("show", *words)
+            self.assertEqual((status, said.count(told)), (0, 1), words)
+            self.assertIn(b"v1", out)
+            self.assertEqual(run("show", "--names", "x,y", *words)[::2], (0, ""), words)
+
+    def test_usage(self):
+        model, graph = os.path.join(SCAN, "scan.model"), os.path.join(SCAN, "scan.graph")
+        said = {
+            ("graph", "-", "-m", "-"): "only one file can be standard input",
+            ("show", "-", "-"): "only one file can be standard input",
+            ("model", model, "--json", "-o", "-"): "name its file with -o",
+            ("graph", graph, "--json", "-o", "-"): "name its file with -o",
+            ("show", "--names", "a", SCAN): "--names wants 3 names that differ",
+            ("show", "--names", "a,if,b", SCAN): "--names: 'if' cannot name a variable",
+            ("figure", SCAN, "3"): "there is no command 'figure': did you mean 'figures'?",
+            ("modle", model): "did you mean 'model'?",
+            ("model",): "usage: laguipy model",
+        }
+        for words, told in said.items():
+            status, out, line = run(*words)
+            self.assertEqual((status, out), (2, b""), words)
+            self.assertIn(told, line)
 
 
 class OddFiles(Room):
