@@ -107,7 +107,7 @@ class GraphRules:
         for n, node in enumerate(self.graph.nodes):
             for e in range(node.edges):
                 edge, size = edge_at(body, at, self.shape)
-                why = self.edge_fault(edge, body, at)
+                why = self.successor_fault(edge) if edge else self.cut_fault(node, body, at)
                 if why:
                     return Finding(16, n, f"edge {e} of node {n} {why}", ("node", n))
                 at += size
@@ -116,17 +116,19 @@ class GraphRules:
             return Finding(16, len(self.graph.nodes), f"{over} of edges are left over after those of the last node")
         return None
 
-    def edge_fault(self, edge, body, at):
-        if edge is None:
-            left = len(body) - at
-            command = int.from_bytes(body[at : at + 2], "little")
-            if left < 2:
-                return "is not there: the edges end before it"
-            if command >= len(self.shape.branches):
-                return f"names command {command}, and the model's are 0 to {len(self.shape.branches) - 1}"
-            branches = self.shape.branches[command]
-            asked = f"command {command} has {counted(branches, 'branch')}, so it takes {2 + 2 * branches} bytes"
-            return f"is cut short: {asked}, and {left} are left"
+    def cut_fault(self, node, body, at):
+        """Why no edge of the model stands there."""
+        left = len(body) - at
+        if left < 2:
+            return f"is not there: the node has {counted(node.edges, 'edge')}, and the edges' bytes end before it"
+        command = int.from_bytes(body[at : at + 2], "little")
+        if command >= len(self.shape.branches):
+            return f"names command {command}, and the model's are 0 to {len(self.shape.branches) - 1}"
+        branches = self.shape.branches[command]
+        asked = f"{self.names.command(command)} has {counted(branches, 'branch')}, so it takes {2 + 2 * branches} bytes"
+        return f"is cut short: {asked}, and {left} are left"
+
+    def successor_fault(self, edge):
         for b, successor in enumerate(edge.successors):
             if successor >= len(self.graph.nodes):
                 there = f"the nodes are 0 to {len(self.graph.nodes) - 1}"
@@ -186,8 +188,8 @@ class NodeRules:
     def a1(self):
         for v in range(len(self.model.variables)):
             if self.node.tracks(v) and self.node.label[v] != self.node.concrete[v]:
-                concrete = self.node.concrete[v]
-                return f"tracks {self.name(v)} = {self.node.label[v]}, and its concrete value is {concrete}"
+                concrete = f"{self.name(v)} is {self.node.concrete[v]} in its concrete label"
+                return f"tracks {self.name(v)} = {self.node.label[v]}, and {concrete}"
         return None
 
     def a2(self):
@@ -216,15 +218,22 @@ class NodeRules:
         due = [c for c, command in enumerate(self.model.commands) if self.in_label.read(command.guard)]
         if there == due:
             return None
+        return f"has edges of commands {listed(there)}, and commands {listed(due)} are due: {self.why_not(there, due)}"
+
+    def why_not(self, there, due):
+        """Why a node's edges are not those of the commands that are due."""
         missing = [c for c in due if c not in there]
-        extra = [c for c in there if c not in due]
         if missing:
-            why = f"{self.names.command(missing[0])} is enabled there, {self.guard(missing[0])}, and has no edge"
-        elif extra:
-            why = f"{self.names.command(extra[0])} has an edge and is not enabled there, {self.guard(extra[0])}"
-        else:
-            why = "each enabled command has one edge, lowest command first"
-        return f"has edges of commands {listed(there)}, and commands {listed(due)} are due: {why}"
+            return f"{self.names.command(missing[0])} is enabled there, {self.guard(missing[0])}, and has no edge"
+        extra = [c for c in there if c not in due]
+        if extra:
+            return f"{self.names.command(extra[0])} has an edge and is not enabled there, {self.guard(extra[0])}"
+        twice = [c for c in due if there.count(c) > 1]
+        if twice:
+            return f"{self.names.command(twice[0])} has {there.count(twice[0])} edges, and one is asked"
+        at = next(k for k in range(len(due)) if there[k] != due[k])
+        stands, asked = self.names.command(there[at]), self.names.command(due[at])
+        return f"the edge of {stands} stands where that of {asked} is asked"
 
     def b2(self):
         if self.node.kind != EXPANDED:
@@ -279,8 +288,8 @@ class NodeRules:
         cover = self.cover()
         for v in range(len(self.model.variables)):
             if cover and cover.tracks(v) and self.node.concrete[v] != cover.label[v]:
-                asked = f"{self.name(v)} = {cover.label[v]}"
-                return f"is outside the label of its cover, node {self.node.cover}, which has {asked}"
+                there = f"which has {self.name(v)} = {cover.label[v]}, where this one has {self.node.concrete[v]}"
+                return f"is outside the label of its cover, node {self.node.cover}, {there}"
         return None
 
     def c2(self):
@@ -303,17 +312,19 @@ class NodeRules:
         if cover and value < cover.value:
             return f"holds {value}, less than its cover, node {self.node.cover}, which holds {cover.value}"
         for edge in self.graph.edges[self.n] if self.node.kind == EXPANDED else ():
-            asked = self.asked(edge)
+            asked, worked_out = self.asked(edge)
             if value < asked:
-                return f"holds {value}, {self.names.command(edge.command)} asks for {asked} at least"
+                return f"holds {value}, {self.names.command(edge.command)} asks for {asked} at least: {worked_out}"
         return None
 
     def asked(self, edge):
-        """The least value that an edge allows."""
+        """The least value that an edge allows, and how it is worked out."""
         records = range(self.first[edge.command], self.first[edge.command] + len(edge.successors))
         weights = [self.model.branches[r].weight for r in records]
-        total = sum(w * self.graph.nodes[s].value for w, s in zip(weights, edge.successors))
-        return -(-total // self.model.total)
+        values = [self.graph.nodes[s].value for s in edge.successors]
+        total = sum(weight * value for weight, value in zip(weights, values))
+        told = " + ".join(f"{w} * {value} of node {s}" for w, value, s in zip(weights, values, edge.successors))
+        return -(-total // self.model.total), f"({told}) / {self.model.total}, rounded up"
 
 
 def graph_finding(model, data, names=None):

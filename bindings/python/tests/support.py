@@ -4,11 +4,17 @@ import io
 import os
 import random
 import signal
+import subprocess
 import sys
+import tempfile
+import unittest
 
 HERE = os.path.dirname(os.path.abspath(__file__))
 ROOT = os.path.normpath(os.path.join(HERE, "..", "..", ".."))
 EXAMPLES = os.path.join(ROOT, "examples")
+LAGUIPY = os.path.join(ROOT, "laguipy")
+PEDAL = os.path.join(EXAMPLES, "pedal")
+SCAN = os.path.join(EXAMPLES, "scan_loop")
 
 sys.dont_write_bytecode = True
 sys.path.insert(0, os.path.join(ROOT, "bindings", "python"))
@@ -107,3 +113,34 @@ def run(*words):
         except SystemExit as end:
             status = end.code
     return status, out.buffer.getvalue(), said.getvalue()
+
+
+def start(*words, **more):
+    """A process of the command line."""
+    more = {"stdout": subprocess.PIPE, "stderr": subprocess.PIPE, "check": False, **more}
+    return subprocess.run([sys.executable, LAGUIPY, *words], **more)
+
+
+class Room(unittest.TestCase):
+    """A folder of its own for each test."""
+
+    def setUp(self):
+        room = tempfile.TemporaryDirectory()
+        self.addCleanup(room.cleanup)
+        self.room = room.name
+
+    def path(self, name, data=None):
+        path = os.path.join(self.room, name)
+        if data is not None:
+            os.makedirs(os.path.dirname(path), exist_ok=True)
+            with open(path, "wb") as file:
+                file.write(data if isinstance(data, bytes) else data.encode())
+        return path
+
+    def large(self, folder, text, nodes, state):
+        """A model, and a graph of as many nodes as may be: that of a text and, covered by node 1, many of a state."""
+        more = [f"node {n} covered by 1 value S tracks {state} state {state}\n" for n in range(nodes, 4096)]
+        source = self.path("large.graph", read(os.path.join(folder, text), "r") + "".join(more))
+        paths = os.path.join(folder, "model.fold"), self.path("large.fold")
+        self.assertEqual(run("graph", source, "-m", paths[0], "-o", paths[1])[0], 0)
+        return paths

@@ -6,50 +6,13 @@ import shutil
 import signal
 import subprocess
 import sys
-import tempfile
 import unittest
 import unittest.mock
 
-from support import EXAMPLES, ROOT, example, examples, interruptible, read, run
+from support import EXAMPLES, LAGUIPY, PEDAL, ROOT, SCAN, Room, example, examples, interruptible, read, run, start
 
 from laguipy.output import Ticker
 from laguipy.series import Estimate, calls_for, told_time
-
-LAGUIPY = os.path.join(ROOT, "laguipy")
-PEDAL = os.path.join(EXAMPLES, "pedal")
-SCAN = os.path.join(EXAMPLES, "scan_loop")
-
-
-def start(*words, **more):
-    """A process of the command line."""
-    more = {"stdout": subprocess.PIPE, "stderr": subprocess.PIPE, "check": False, **more}
-    return subprocess.run([sys.executable, LAGUIPY, *words], **more)
-
-
-class Room(unittest.TestCase):
-    """A folder of its own for each test."""
-
-    def setUp(self):
-        room = tempfile.TemporaryDirectory()
-        self.addCleanup(room.cleanup)
-        self.room = room.name
-
-    def path(self, name, data=None):
-        path = os.path.join(self.room, name)
-        if data is not None:
-            os.makedirs(os.path.dirname(path), exist_ok=True)
-            with open(path, "wb") as file:
-                file.write(data if isinstance(data, bytes) else data.encode())
-        return path
-
-
-    def large(self, folder, text, nodes, state):
-        """A model, and a graph of as many nodes as may be: that of a text and, covered by node 1, many of a state."""
-        more = [f"node {n} covered by 1 value S tracks {state} state {state}\n" for n in range(nodes, 4096)]
-        source = self.path("large.graph", read(os.path.join(folder, text), "r") + "".join(more))
-        paths = os.path.join(folder, "model.fold"), self.path("large.fold")
-        self.assertEqual(run("graph", source, "-m", paths[0], "-o", paths[1])[0], 0)
-        return paths
 
 
 class Check(Room):
@@ -467,37 +430,6 @@ class OddFiles(Room):
             status, out, said = run("explain", folder)
             self.assertEqual((status, out.split(b"\n")[0]), (1, b"refused 21 0"))
             self.assertIn("model.names: cannot be read: it is no file", said)
-
-
-class Explain(unittest.TestCase):
-    SAID = {
-        "refused_19": "the guard of command 0, a < 2, is unknown in its label, which does not track a",
-        "refused_20": "command 1 is enabled there, a = 0, and has no edge",
-        "refused_21": "it tracks d, and d' = 1 - d is unknown in the label of node 0, which does not track d",
-        "refused_22": "node 3 (a = 0, d = 1) is covered by node 4, which is itself covered, by node 1",
-        "refused_23": "node 4 (a = 3, d = 0) is outside the label of its cover, node 0, which has a = 0",
-        "refused_24": "node 3 (a = 0, d = 1) does not track a, and its cover, node 0, tracks a = 0",
-        "refused_25": "node 0 (a = 0, d = 0) holds 9999999, command 0 asks for 10000000 at least",
-    }
-
-    def test_examples(self):
-        for name, line in self.SAID.items():
-            status, out, _ = run("explain", os.path.join(EXAMPLES, name))
-            self.assertEqual(status, 1)
-            self.assertIn(line, out.decode())
-            self.assertIn("not part of what is proved. Its number and place are the proved ones", out.decode())
-            data = json.loads(run("explain", "--json", os.path.join(EXAMPLES, name))[1])
-            self.assertTrue(data["agrees"] and line in data["explanation"])
-        self.assertEqual(run("explain", PEDAL)[0], 0)
-
-    def test_one_that_does_not_agree_says_so(self):
-        from laguipy.explain import Explanation
-        from laguipy.findings import Finding
-
-        other = Explanation("refused 25 0", 25, 0, Finding(24, 1, "something else"), False)
-        self.assertIn("does NOT agree", other.lines()[-1])
-        self.assertIn("does NOT agree", Explanation("accepted", 0, 0, Finding(24, 1, "x"), False).lines()[-1])
-        self.assertIn("no broken rule", Explanation("refused 25 0", 25, 0, None, False).lines()[-1])
 
 
 class Output(unittest.TestCase):

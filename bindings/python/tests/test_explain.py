@@ -1,0 +1,174 @@
+"""What is explained of a refusal, cause by cause: what is there, what is asked, and that it is the proved answer."""
+import json
+import os
+import unittest
+
+from support import EXAMPLES, PEDAL, Room, read, run
+
+from laguipy.explain import Explanation
+from laguipy.findings import Finding
+
+# For each cause of refusals 15 to 25, what is changed in the text of the pedal's graph, and what is said.
+SURE = (
+    ("value 10_000_000 tracks a=0 state a=0 d=0", "value S tracks a=0 state a=0 d=0"),
+    ("value 100_000_000", "value S"),
+    ("by 0 value 10_000_000", "by 0 value S"),
+)
+CAUSES = {
+    (("node 4 covered by 1", "node 4 kind 7"),): "15 4: node 4 has kind 7, and kinds are 0 to 3",
+    (("value 0 tracks a=3 state a=3 d=0\nnode 2", "value 1000000001 tracks a=3 state a=3 d=0\nnode 2"),): (
+        "15 1: node 1 holds 1000000001, more than certainty, which is 1000000000"
+    ),
+    (("node 1 expanded", "node 1 expanded by 2"),): (
+        "15 1: node 1 is expanded and names node 2 as its cover: only a covered node has one; write 0"
+    ),
+    (("covered by 1", "covered by 1 edges 1"),): (
+        "15 4: node 4 is covered and has 1 edge: only an expanded node has edges"
+    ),
+    (("node 5 target value S tracks a=2", "node 5 target value S set 5 label a=2"),): (
+        "15 5: node 5 tracks variable 2, and the model's are 0 to 1"
+    ),
+    (("state a=2 d=0", "state a=2 d=2"),): (
+        "15 5: node 5 has d = 2 in its concrete label, and d lies in 0..1"
+    ),
+    (("state a=2 d=0", "label d=1 state a=2 d=0"),): (
+        "15 5: node 5 does not track d, and has 1 as its label value: write 0"
+    ),
+    (("edge 0: 4 5", "edge raw 9: 4 5"),): "16 2: edge 0 of node 2 names command 9, and the model's are 0 to 1",
+    (("100_000_000", "100_000_000 edges 2"),): (
+        "16 2: edge 1 of node 2 is not there: the node has 2 edges, and the edges' bytes end before it"
+    ),
+    (("edge 0: 4 5", "edge raw 0: 4"),): (
+        "16 2: edge 0 of node 2 is cut short: command 0 has 2 branches, so it takes 6 bytes, and 4 are left"
+    ),
+    (("edge 0: 4 5", "edge 0: 4 6"),): (
+        "16 2: edge 0 of node 2 (command 0) leads to node 6 by branch 1, and the nodes are 0 to 5"
+    ),
+    (("edge 0: 4 5", "edge 0: 4 5\nbytes edges 0100"),): (
+        "16 6: 2 bytes of edges are left over after those of the last node"
+    ),
+    (("tracks a=0 state a=0 d=0", "tracks a=0 state a=0 d=1"),): (
+        "17 0: node 0 starts with d = 1, the model with d = 0"
+    ),
+    (("tracks a=0 state a=0 d=0", "tracks a=1 state a=0 d=0"),): (
+        "18 0: node 0 (a = 0, d = 0) tracks a = 1, and a is 0 in its concrete label"
+    ),
+    (("tracks a=0 state a=0 d=0", "tracks d=0 state a=0 d=0"),): (
+        "19 0: node 0 (a = 0, d = 0) is expanded, and the guard of command 0, a < 2, is unknown in its label, "
+        "which does not track a"
+    ),
+    (("node 5 target", "node 5 expanded"),): (
+        "19 5: node 5 (a = 2, d = 0) is expanded, and the target, a = 2, is true in its label: a target state is not "
+        "expanded"
+    ),
+    (("tracks a=2", "tracks none"),): (
+        "19 5: node 5 (a = 2, d = 0) is target, and the target, a = 2, is unknown in its label, which does not track a"
+    ),
+    (("node 4 covered by 1 value 0", "node 4 target"), *SURE): (
+        "19 4: node 4 (a = 3, d = 0) is a target, and the target, a = 2, is false in its label"
+    ),
+    (("  edge 1: 3\n", ""),): (
+        "20 0: node 0 (a = 0, d = 0) has edges of commands 0, and commands 0 and 1 are due: command 1 is enabled "
+        "there, a = 0, and has no edge"
+    ),
+    (("edge 0: 4 5", "edge 0: 4 5\n  edge 1: 3"),): (
+        "20 2: node 2 (a = 1, d = 0) has edges of commands 0 and 1, and commands 0 are due: command 1 has an edge and "
+        "is not enabled there, a = 0"
+    ),
+    (("edge 0: 4 5", "edge 0: 4 5\n  edge 0: 4 5"),): (
+        "20 2: node 2 (a = 1, d = 0) has edges of commands 0 and 0, and commands 0 are due: command 0 has 2 edges, and "
+        "one is asked"
+    ),
+    (("  edge 0: 1 2\n  edge 1: 3\n", "  edge 1: 3\n  edge 0: 1 2\n"),): (
+        "20 0: node 0 (a = 0, d = 0) has edges of commands 1 and 0, and commands 0 and 1 are due: the edge of command "
+        "1 stands where that of command 0 is asked"
+    ),
+    (("edge 0: 1 2", "edge 0: 2 1"),): (
+        "21 0: node 0 (a = 0, d = 0) leads by command 0, branch 0, to node 2: a' = 3 gives 3, and its concrete label "
+        "has a = 1"
+    ),
+    (("tracks a=0 state a=0 d=1", "tracks a=0 d=1 state a=0 d=1"),): (
+        "21 0: node 0 (a = 0, d = 0) leads by command 1, branch 0, to node 3: it tracks d, and d' = 1 - d is unknown "
+        "in the label of node 0, which does not track d"
+    ),
+    (("tracks a=1", "tracks a=3"),): (
+        "21 0: node 0 (a = 0, d = 0) leads by command 0, branch 1, to node 2: it tracks a, and a' = smaller(a + 1, 2) "
+        "is 1 in the label of node 0, where the label of node 2 has 3"
+    ),
+    (("covered by 1", "covered by 9"),): (
+        "22 4: node 4 (a = 3, d = 0) is covered by node 9, and the nodes are 0 to 5"
+    ),
+    (("covered by 1", "covered by 4"),): "22 4: node 4 (a = 3, d = 0) is covered by itself",
+    (("covered by 1", "covered by 3"),): (
+        "22 4: node 4 (a = 3, d = 0) is covered by node 3, which is itself covered, by node 0"
+    ),
+    (("covered by 1", "covered by 2"),): (
+        "23 4: node 4 (a = 3, d = 0) is outside the label of its cover, node 2, which has a = 1, where this one has 3"
+    ),
+    (("tracks a=0 state a=0 d=1", "tracks none state a=0 d=1"),): (
+        "24 3: node 3 (a = 0, d = 1) does not track a, and its cover, node 0, tracks a = 0"
+    ),
+    (("node 4 covered by 1 value 0", "node 4 waiting value 5"), *SURE): (
+        "25 4: node 4 (a = 3, d = 0) holds 5, and a waiting node holds 1000000000"
+    ),
+    (("target value S", "target value 5"),): (
+        "25 5: node 5 (a = 2, d = 0) holds 5, and a target node holds 1000000000"
+    ),
+    (("by 0 value 10_000_000", "by 0 value 5"),): (
+        "25 3: node 3 (a = 0, d = 1) holds 5, less than its cover, node 0, which holds 10000000"
+    ),
+    (("value 10_000_000 tracks a=0 state a=0 d=0", "value 9_999_999 tracks a=0 state a=0 d=0"),): (
+        "25 0: node 0 (a = 0, d = 0) holds 9999999, command 0 asks for 10000000 at least: "
+        "(9 * 0 of node 1 + 1 * 100000000 of node 2) / 10, rounded up"
+    ),
+}
+
+
+class Causes(Room):
+    def test_every_cause(self):
+        text, model = read(os.path.join(PEDAL, "pedal.graph"), "r"), os.path.join(PEDAL, "model.fold")
+        for changes, told in CAUSES.items():
+            changed = text
+            for old, new in changes:
+                self.assertEqual(changed.count(old), 1, old)
+                changed = changed.replace(old, new)
+            graph = self.path("g.fold")
+            self.assertEqual(run("graph", self.path("g.graph", changed), "-m", model, "-o", graph, "--anyway")[0], 0)
+            status, out, _ = run("explain", model, graph)
+            lines = out.decode().splitlines()
+            self.assertEqual((status, f"{lines[0]}: {lines[1]}"), (1, f"refused {told}"))
+            self.assertTrue(lines[2].startswith("what to do: "))
+            self.assertIn("Its number and place are the proved ones.", lines[3])
+        self.assertEqual({told.split()[0] for told in CAUSES.values()}, {str(number) for number in range(15, 26)})
+
+
+class Explain(unittest.TestCase):
+    SAID = {
+        "refused_19": "the guard of command 0, a < 2, is unknown in its label, which does not track a",
+        "refused_20": "command 1 is enabled there, a = 0, and has no edge",
+        "refused_21": "it tracks d, and d' = 1 - d is unknown in the label of node 0, which does not track d",
+        "refused_22": "node 3 (a = 0, d = 1) is covered by node 4, which is itself covered, by node 1",
+        "refused_23": "node 4 (a = 3, d = 0) is outside the label of its cover, node 0, which has a = 0",
+        "refused_24": "node 3 (a = 0, d = 1) does not track a, and its cover, node 0, tracks a = 0",
+        "refused_25": "node 0 (a = 0, d = 0) holds 9999999, command 0 asks for 10000000 at least",
+    }
+
+    def test_examples(self):
+        for name, line in self.SAID.items():
+            status, out, _ = run("explain", os.path.join(EXAMPLES, name))
+            self.assertEqual(status, 1)
+            self.assertIn(line, out.decode())
+            self.assertIn("not part of what is proved. Its number and place are the proved ones", out.decode())
+            data = json.loads(run("explain", "--json", os.path.join(EXAMPLES, name))[1])
+            self.assertTrue(data["agrees"] and line in data["explanation"])
+        self.assertEqual(run("explain", PEDAL)[0], 0)
+
+    def test_one_that_does_not_agree_says_so(self):
+        other = Explanation("refused 25 0", 25, 0, Finding(24, 1, "something else"), False)
+        self.assertIn("does NOT agree", other.lines()[-1])
+        self.assertIn("does NOT agree", Explanation("accepted", 0, 0, Finding(24, 1, "x"), False).lines()[-1])
+        self.assertIn("no broken rule", Explanation("refused 25 0", 25, 0, None, False).lines()[-1])
+
+
+if __name__ == "__main__":
+    unittest.main()
