@@ -6,6 +6,7 @@ the sha256 of each library and program. No installed file names the prefix, so t
   tools/install.py --prefix /usr/local [--destdir STAGE] [--remove]
 """
 import argparse
+import contextlib
 import os
 import shutil
 import sys
@@ -48,8 +49,17 @@ Libs: -L${{libdir}} -llaguipy
 """
 
 
+class Failed(Exception):
+    """Why nothing was installed or taken away."""
+
+
 def say(words):
     print(f"install: {words}", flush=True)
+
+
+def failed(words):
+    print(f"install: {words}", file=sys.stderr)
+    return 3
 
 
 class Installer:
@@ -94,8 +104,30 @@ def read(path):
         return file.read()
 
 
+def listed(top):
+    """The files of the installation that is there; none where there is none."""
+    with contextlib.suppress(FileNotFoundError), open(os.path.join(top, LISTED), encoding="utf-8") as file:
+        return file.read().splitlines()
+    return []
+
+
+def take_away(top, paths):
+    """Removes files, and the folders that they leave empty."""
+    for path in paths:
+        target = os.path.join(top, path)
+        with contextlib.suppress(FileNotFoundError):
+            os.remove(target)
+        folder = os.path.dirname(target)
+        with contextlib.suppress(OSError):  # one that is not empty, or is gone
+            while folder.startswith(top.rstrip(os.sep) + os.sep):
+                os.rmdir(folder)
+                folder = os.path.dirname(folder)
+
+
 def install(top):
-    version = read("VERSION").strip()
+    if not os.path.isfile(os.path.join(BUILD, "share", "laguipy", "proved")):
+        raise Failed("nothing is proved yet: `make` does it")
+    version, before = read("VERSION").strip(), listed(top)
     to = Installer(top)
     to.copy("build/bin/check_graph", "bin/check_graph", 0o755)
     to.write(COMMAND, "bin/laguipy", 0o755)
@@ -114,21 +146,17 @@ def install(top):
     to.tree("examples", "share/doc/laguipy/examples", lambda name: name != "make.sh")
     to.copy("build/share/laguipy/proved", "share/laguipy/proved")
     to.write("".join(path + "\n" for path in [*to.written, LISTED]), LISTED)
+    # What another version had and this one has not.
+    take_away(top, sorted(set(before) - set(to.written)))
     say(f"laguipy {version} below {top}")
     say(f"Python finds the package with PYTHONPATH={os.path.join(top, PACKAGES)}")
 
 
 def remove(top):
-    with open(os.path.join(top, LISTED), encoding="utf-8") as file:
-        paths = file.read().splitlines()
-    for path in paths:
-        target = os.path.join(top, path)
-        if os.path.islink(target) or os.path.exists(target):
-            os.remove(target)
-        folder = os.path.dirname(target)
-        while folder.startswith(top + os.sep) and not os.listdir(folder):
-            os.rmdir(folder)
-            folder = os.path.dirname(folder)
+    paths = listed(top)
+    if not paths:
+        raise Failed(f"there is no laguipy below {top}: {os.path.join(top, LISTED)} is missing")
+    take_away(top, paths)
     say(f"laguipy is no longer below {top}")
 
 
@@ -144,9 +172,12 @@ def main():
             remove(top)
         else:
             install(top)
+    except Failed as error:
+        return failed(error)
     except OSError as error:
-        say(f"{error.filename}: {error.strerror}")
-        return 3
+        return failed(f"{error.filename or 'standard output'}: {error.strerror}")
+    except KeyboardInterrupt:
+        return 130
     return 0
 
 

@@ -109,6 +109,43 @@ class Installed(unittest.TestCase):
             self.install("--prefix", room, "--remove")
             self.assertEqual(os.listdir(room), ["own"])
 
+    def test_another_version(self):
+        """What a version before had, and this one has not, is taken away; what is not ours stays."""
+        with tempfile.TemporaryDirectory() as room:
+            self.install("--prefix", room)
+            listed = os.path.join(room, "share", "laguipy", "installed")
+            for name in ("lib/liblaguipy.so.0.0.0", "lib/old/own", "lib/own"):
+                os.makedirs(os.path.dirname(os.path.join(room, name)), exist_ok=True)
+                with open(os.path.join(room, name), "w", encoding="ascii"):
+                    pass
+            with open(listed, "a", encoding="utf-8") as file:
+                file.write("lib/liblaguipy.so.0.0.0\nlib/old/own\nlib/gone/before\n")
+            before = set(os.listdir(os.path.join(room, "lib")))
+            self.install("--prefix", room)
+            after = set(os.listdir(os.path.join(room, "lib")))
+            self.assertEqual(before - after, {"liblaguipy.so.0.0.0", "old"})
+            self.assertNotIn("lib/old/own", read(listed, "r"))
+
+    def test_what_cannot_be_done(self):
+        """A line on standard error, and exit 3."""
+        tool = os.path.join(ROOT, "tools", "install.py")
+        with tempfile.TemporaryDirectory() as room:
+            with open(os.path.join(room, "file"), "w", encoding="ascii"):
+                pass
+            copy = os.path.join(room, "tools", "install.py")
+            os.mkdir(os.path.dirname(copy))
+            shutil.copy(tool, copy)
+            for words, told in (
+                ((tool, "--prefix", room, "--remove"), "there is no laguipy below"),
+                ((tool, "--prefix", os.path.join(room, "file")), "file/"),
+                ((copy, "--prefix", os.path.join(room, "new")), "nothing is proved yet: `make` does it"),
+            ):
+                line = [sys.executable, *words]
+                came = subprocess.run(line, stdout=subprocess.PIPE, stderr=subprocess.PIPE, check=False)
+                self.assertEqual((came.returncode, came.stdout), (3, b""), words)
+                self.assertIn(told, came.stderr.decode())
+                self.assertNotIn("Traceback", came.stderr.decode())
+
 
 if __name__ == "__main__":
     unittest.main()
