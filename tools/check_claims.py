@@ -13,6 +13,7 @@ What stands in `backticks` is, in this order:
 - an edit; or a name that is declared somewhere in the sources, where no file stands before it.
 Words that are no names stand in "quotes" instead.
 """
+import argparse
 import functools
 import os
 import re
@@ -146,14 +147,20 @@ def faults(path):
     return found
 
 
-def main(paths):
-    wrong = [fault for path in paths or DOCUMENTS for fault in faults(path)]
+def main():
+    parser = argparse.ArgumentParser(description=__doc__, formatter_class=argparse.RawDescriptionHelpFormatter)
+    parser.add_argument("paths", nargs="*", metavar="FILE", default=DOCUMENTS)
+    paths = parser.parse_args().paths
+    try:
+        wrong = [fault for path in paths for fault in faults(path)]
+    except OSError as error:
+        sys.exit(f"{error.filename}: {error.strerror}")
     for fault in wrong:
         print(fault, file=sys.stderr)
-    count = sum(len(QUOTED.findall(text_of(os.path.join(ROOT, path)))) for path in paths or DOCUMENTS)
+    count = sum(len(QUOTED.findall(text_of(os.path.join(ROOT, path)))) for path in paths)
     print(f"{count} names and files quoted by the claims, {len(wrong)} not there")
     return 1 if wrong or not count else 0
 
 
 if __name__ == "__main__":
-    sys.exit(main(sys.argv[1:]))
+    sys.exit(main())

@@ -5,6 +5,7 @@ stands on directly.
   tools/layers.py            writes them
   tools/layers.py --check    writes nothing, and exits with 1 if the README has others
 """
+import argparse
 import os
 import sys
 
@@ -59,7 +60,10 @@ def section(text):
     return "\n".join(lines)
 
 
-def main(words):
+def main():
+    parser = argparse.ArgumentParser(description=__doc__, formatter_class=argparse.RawDescriptionHelpFormatter)
+    parser.add_argument("--check", action="store_true", help="write nothing, and compare")
+    args = parser.parse_args()
     with open(os.path.join(ROOT, "crates.txt"), encoding="utf-8") as file:
         made = section(file.read())
     path = os.path.join(ROOT, "README.md")
@@ -70,7 +74,7 @@ def main(words):
     if not mark or not end:
         sys.exit(f"README.md has not the marks {START} and {END}")
     new = f"{head}{START}\n\n{made}{END}{tail}"
-    if words == ["--check"]:
+    if args.check:
         if new != text:
             print("the layers of README.md are not those of crates.txt: tools/layers.py writes them", file=sys.stderr)
         return int(new != text)
@@ -80,4 +84,4 @@ def main(words):
 
 
 if __name__ == "__main__":
-    sys.exit(main(sys.argv[1:]))
+    sys.exit(main())

@@ -5,6 +5,7 @@ commands of a document run in one folder, which has what the checkout has.
 
   tools/test_guide.py FILE..
 """
+import argparse
 import os
 import subprocess
 import sys
@@ -26,6 +27,8 @@ def blocks(text):
         else:
             found.append((lines[start - 1][len(FENCE) :].split(), start, lines[start : number - 1]))
             start = None
+    if start is not None:
+        sys.exit(f"the block of line {start} has no end")
     return found
 
 
@@ -51,8 +54,11 @@ class Document:
                 os.symlink(os.path.join(ROOT, name), os.path.join(room, name))
 
     def run(self):
-        with open(self.path, encoding="utf-8") as file:
-            text = file.read()
+        try:
+            with open(self.path, encoding="utf-8") as file:
+                text = file.read()
+        except OSError as error:
+            sys.exit(f"{self.path}: {error.strerror}")
         for words, start, lines in blocks(text):
             if words[:1] == ["console"]:
                 for command in commands(lines, start):
@@ -77,9 +83,11 @@ class Document:
             print(f"{self.path}:{number}: {command}\n--- it says\n{due}--- it prints\n{came}---", file=sys.stderr)
 
 
-def main(paths):
+def main():
+    parser = argparse.ArgumentParser(description=__doc__, formatter_class=argparse.RawDescriptionHelpFormatter)
+    parser.add_argument("paths", nargs="+", metavar="FILE")
     total = wrong = 0
-    for path in paths:
+    for path in parser.parse_args().paths:
         with tempfile.TemporaryDirectory() as room:
             document = Document(path, room)
             document.run()
@@ -89,4 +97,4 @@ def main(paths):
 
 
 if __name__ == "__main__":
-    sys.exit(main(sys.argv[1:]))
+    sys.exit(main())

@@ -76,10 +76,26 @@ class Checks(unittest.TestCase):
         text = "```text a/b\nx\n```\n\n```console\n$ cat a/b\nx\n$ echo y >&2\ny\n```\n"
         path = os.path.join(self.room, "page.md")
         output, file = text.replace("\ny\n", "\nz\n"), text.replace("\nx\n", "\nw\n", 1)
-        for wrong, status in ((text, 0), (output, 1), (file, 1), ("", 1)):
+        for wrong, status in ((text, 0), (output, 1), (file, 1), (text[: text.rindex("`") - 2], 1), ("", 1)):
             with open(path, "w", encoding="utf-8") as file:
                 file.write(wrong)
             self.assertEqual(self.run_tool("test_guide.py", path)[0], status, wrong)
+
+    def test_words(self):
+        """A word that is not known is refused and does nothing, and a document that is not there is told."""
+        with open(os.path.join(self.room, "README.md"), encoding="utf-8") as file:
+            before = file.read()
+        self.change("README.md", "| `mdp`, `expressions` |", "| `mdp` |")
+        for tool in ("layers.py", "check_claims.py", "test_guide.py"):
+            self.assertEqual(self.run_tool(tool, "--chekc")[0], 2, tool)
+            self.assertEqual(self.run_tool(tool, "--help")[0], 0, tool)
+        self.change("README.md", "| `mdp` |", "| `mdp`, `expressions` |")
+        with open(os.path.join(self.room, "README.md"), encoding="utf-8") as file:
+            self.assertEqual(file.read(), before)
+        for tool in ("check_claims.py", "test_guide.py"):
+            status, said = self.run_tool(tool, "nowhere.md")
+            self.assertEqual((status, said.count("\n")), (1, 1), said)
+            self.assertIn("nowhere.md: No such file", said)
 
 
 class Sources(unittest.TestCase):
