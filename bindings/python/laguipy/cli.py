@@ -317,6 +317,8 @@ def parsed(words):
 
 def run(words):
     args = parsed(words)
+    if where.other_library():
+        say(PROGRAM, f"the library is {where.other_library()}, as LAGUIPY_LIBRARY says: that it is proved is not known")
     try:
         return args.run(args)
     except InputError as error:

@@ -58,29 +58,40 @@ def folder(bodies, contents=()):
     return b"".join(table + bodies)
 
 
+class ContentsFault(NamedTuple):
+    """The lowest entry of a table of contents that is off, why, and what to do where it is the file that is wrong."""
+
+    entry: int
+    text: str
+    advice: str = ""
+
+
 def contents_fault(data, names, kind):
-    """The lowest entry of the table of contents that is off, and why; None if there is none. The table is there."""
+    """What is off in the table of contents, which is there; None if nothing is."""
     due = CONTENTS_ENTRY * len(names)
     for e, name in enumerate(names):
         start, length = struct.unpack_from("<II", data, CONTENTS_ENTRY * e)
         where = f"contents entry {e} ({name}) is off:"
         if start != due:
-            perhaps = other_kind(data, kind, e, start)
-            return e, f"{where} it starts at {start}, and {due} is due in a {kind} folder{perhaps}"
+            perhaps, advice = other_kind(data, kind, e, start)
+            text = f"{where} it starts at {start}, and {due} is due in a {kind} folder{perhaps}"
+            return ContentsFault(e, text, advice)
         due = start + length
         if due > len(data):
-            return e, f"{where} it ends at {due}, and the folder has {len(data)} bytes"
+            return ContentsFault(e, f"{where} it ends at {due}, and the folder has {len(data)} bytes")
         if e + 1 == len(names) and due < len(data):
-            return e, f"{where} it ends at {due}, short of the folder's {len(data)} bytes"
+            return ContentsFault(e, f"{where} it ends at {due}, short of the folder's {len(data)} bytes")
     return None
 
 
 def other_kind(data, kind, entry, start):
-    """What the bytes may be, where they are no folder of this kind."""
+    """What the bytes may be, where they are no folder of this kind, and what to do then."""
     other, bodies = ("graph", GRAPH_BODIES) if kind == "model" else ("model", MODEL_BODIES)
     if entry == 0 and start == CONTENTS_ENTRY * len(bodies):
-        return f"; is it a {other} folder?"
-    return "; is it text?" if 0 not in data else ""
+        return f"; is it a {other} folder?", "name the model folder first, then the graph folder"
+    if 0 not in data:
+        return "; is it text?", f"make a folder of the text first, by `laguipy {kind}`, and name that"
+    return "", ""
 
 
 def bodies_of(data, names, kind):
@@ -90,7 +101,7 @@ def bodies_of(data, names, kind):
         raise InputError(f"{len(data)} bytes are too few for a {kind} folder: its table of contents alone has {table}")
     fault = contents_fault(data, names, kind)
     if fault:
-        raise InputError(fault[1])
+        raise InputError(fault.text)
     places = [struct.unpack_from("<II", data, CONTENTS_ENTRY * e) for e in range(len(names))]
     return [data[start : start + length] for start, length in places]
 

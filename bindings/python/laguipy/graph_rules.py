@@ -58,7 +58,7 @@ class GraphRules:
             return Finding(12, 0, f"the graph has {there}, and a graph folder has {LEAST_GRAPH_BYTES} to {GRAPH_BYTES}")
         fault = contents_fault(self.data, GRAPH_BODIES, "graph")
         if fault:
-            return Finding(13, fault[0], fault[1])
+            return Finding(13, fault.entry, fault.text, advice=fault.advice)
         length, size = len(bodies_of(self.data, GRAPH_BODIES, "graph")[0]), node_size(self.shape.variables)
         if length % size:
             of_model = f"a node of this model, with {counted(self.shape.variables, 'variable')}, has {size}"

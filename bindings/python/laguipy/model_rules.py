@@ -50,7 +50,7 @@ def folder_finding(data):
         return Finding(1, 0, f"the model has {there}, and a model folder has {LEAST_MODEL_BYTES} to {MODEL_BYTES}")
     fault = contents_fault(data, MODEL_BODIES, "model")
     if fault:
-        return Finding(2, fault[0], fault[1])
+        return Finding(2, fault.entry, fault.text, advice=fault.advice)
     lengths = [len(body) for body in bodies_of(data, MODEL_BODIES, "model")]
     sizes = (TERMS_SIZE, VARIABLE_SIZE, ENTRY_SIZE, COMMAND_SIZE, branch_size(lengths[1] // VARIABLE_SIZE))
     most = (1, MOST_VARIABLES, MOST_EXPRESSIONS, MOST_COMMANDS, MOST_RECORDS)

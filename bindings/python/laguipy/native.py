@@ -84,8 +84,10 @@ def loaded():
             call = getattr(library, name)
             call.argtypes = arguments
             call.restype = None if name == "laguipy_record_part" else SIZE
-    except (OSError, AttributeError) as error:
-        raise RunError(f"the library cannot be loaded: {error}") from None
+    except (OSError, AttributeError, ValueError) as error:
+        # A path that is no UTF-8 is not even named by the loader.
+        told = path if isinstance(error, ValueError) else error
+        raise RunError(f"the library cannot be loaded: {told}") from None
     return library
 
 

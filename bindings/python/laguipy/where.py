@@ -33,9 +33,14 @@ def program(name):
     return os.path.join(needed(), "bin", name)
 
 
+def other_library():
+    """The library that LAGUIPY_LIBRARY names in place of the proved one, or None."""
+    return os.environ.get("LAGUIPY_LIBRARY") or None
+
+
 def library():
     """The shared library: LAGUIPY_LIBRARY, or the one that was proved."""
-    return os.environ.get("LAGUIPY_LIBRARY") or os.path.join(needed(), "lib", LIBRARY)
+    return other_library() or os.path.join(needed(), "lib", LIBRARY)
 
 
 def example():

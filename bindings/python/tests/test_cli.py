@@ -488,6 +488,22 @@ class Output(unittest.TestCase):
             self.assertEqual((status, out.split()[:2]), (0, due), words)
 
 
+class Environment(unittest.TestCase):
+    def test_library(self):
+        """One that cannot be loaded, or is another, is an error; and no other is taken for the proved one."""
+        for library in (b"/nowhere", b"/tmp", sys.executable.encode(), b"\xff", b"two\nlines"):
+            came = start("explain", PEDAL, env={**os.environb, b"LAGUIPY_LIBRARY": library})
+            self.assertEqual((came.returncode, came.stdout), (3, b""), library)
+            self.assertIn(b"the library cannot be loaded: ", came.stderr)
+            self.assertEqual(came.stderr.count(b"\n"), 2, came.stderr)
+        own = os.path.join(ROOT, "build", "lib", "liblaguipy.so")
+        came = start("figures", PEDAL, "3", env={**os.environ, "LAGUIPY_LIBRARY": own})
+        self.assertEqual((came.returncode, came.stdout), (0, b"within 3 10000000 1 %\n"))
+        self.assertIn(f"the library is {own}, as LAGUIPY_LIBRARY says", came.stderr.decode())
+        came = start("figures", PEDAL, "3", env={**os.environ, "LAGUIPY_LIBRARY": ""})
+        self.assertEqual((came.returncode, came.stderr), (0, b""))
+
+
 class AtOnce(unittest.TestCase):
     def test_many_at_once(self):
         expected = read(os.path.join(SCAN, "expected.txt"))

@@ -142,6 +142,24 @@ class Causes(Room):
         self.assertEqual({told.split()[0] for told in CAUSES.values()}, {str(number) for number in range(15, 26)})
 
 
+class MixedUp(Room):
+    def test_wrong_files(self):
+        """The graph as the model, and texts in place of folders: the advice is about the files."""
+        model, graph = os.path.join(PEDAL, "model.fold"), os.path.join(PEDAL, "graph.fold")
+        told = {
+            (graph, model): ("2 0", "is it a graph folder?", "name the model folder first, then the graph folder"),
+            (model, model): ("13 0", "is it a model folder?", "name the model folder first, then the graph folder"),
+            (os.path.join(PEDAL, "pedal.model"), graph): ("2 0", "is it text?", "first, by `laguipy model`"),
+            (model, os.path.join(PEDAL, "pedal.graph")): ("13 0", "is it text?", "first, by `laguipy graph`"),
+            (model, self.path("off", read(graph)[:-1])): ("13 1", "the folder has 151 bytes", "from the lengths of"),
+        }
+        for words, (answer, what, advice) in told.items():
+            lines = run("explain", *words)[1].decode().splitlines()
+            self.assertEqual(lines[0], f"refused {answer}")
+            self.assertIn(what, lines[1])
+            self.assertIn(advice, lines[2])
+
+
 class Explain(unittest.TestCase):
     SAID = {
         "refused_19": "the guard of command 0, a < 2, is unknown in its label, which does not track a",
