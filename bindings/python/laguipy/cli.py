@@ -194,10 +194,13 @@ class ShowVersion(argparse.Action):
 
 
 class Parser(argparse.ArgumentParser):
-    """Help goes where all output goes, so that what cannot be written is told."""
+    """Help goes where all output goes, so that what cannot be written is told; faults go where all others do."""
 
     def print_help(self, file=None):
         emit(self.format_help())
+
+    def error(self, message):
+        raise UsageError(f"{message}; `{self.prog} --help` has the usage")
 
 
 def add(commands, name, run, about, more=""):
@@ -304,12 +307,11 @@ def needs_nothing(words):
 
 def parsed(words):
     """The words of a command. Those that name places or numbers may stand before and after options."""
-    whole = parser()
-    args, rest = whole.parse_known_args(with_command(words))
+    args, rest = parser().parse_known_args(with_command(words))
     listed = getattr(args, "words", getattr(args, "places", None))
     wrong = [word for word in rest if listed is None or is_option(word)]
     if wrong:
-        whole.error(f"unrecognized arguments: {' '.join(wrong)}")
+        raise UsageError(f"unknown: {' '.join(wrong)}; `{PROGRAM} {args.command} --help` has the usage")
     if rest:
         listed += rest
     return args

@@ -11,6 +11,7 @@ import unittest.mock
 
 from support import EXAMPLES, LAGUIPY, PEDAL, ROOT, SCAN, Room, example, examples, interruptible, read, run, start
 
+from laguipy.advice import runs
 from laguipy.output import Ticker
 from laguipy.series import Estimate, calls_for, told_time
 
@@ -89,7 +90,16 @@ class Check(Room):
         self.assertEqual((status, out.split(b"\n")[1]), (0, b"root 0"))
         guard = "command 0 (lost): its guard, a = 2, is true in no"
         for line in ("node 0 is a dead end", guard, "variable unread: no expression"):
-            self.assertIn(line, said)
+            self.assertIn(f"laguipy: warning: {line}", said)
+        self.assertEqual(run("-q", os.path.join(self.room, "m")), (0, out, ""))
+        status, data, said = run("--json", os.path.join(self.room, "m"))
+        self.assertEqual((status, len(json.loads(data)["warnings"]), said), (0, 3, ""))
+
+    def test_many_nodes_in_a_warning(self):
+        self.assertEqual(runs([3]), "3")
+        self.assertEqual(runs([1, 2, 3, 7]), "1 to 3 and 7")
+        self.assertEqual(runs([0, 2, 4, 5]), "0, 2 and 4 to 5")
+        self.assertTrue(runs(range(0, 4096, 2)).endswith(", 36, 38 and 2028 more"))
 
 
 class Figures(Room):
@@ -331,11 +341,13 @@ class Texts(Room):
             ("show", "--names", "a,if,b", SCAN): "--names: 'if' cannot name a variable",
             ("figure", SCAN, "3"): "there is no command 'figure': did you mean 'figures'?",
             ("modle", model): "did you mean 'model'?",
-            ("model",): "usage: laguipy model",
+            ("model",): "FILE; `laguipy model --help` has the usage",
+            ("model", model, "--nothing"): "unknown: --nothing; `laguipy model --help` has the usage",
+            ("graph", graph, "-m"): "`laguipy graph --help` has the usage",
         }
         for words, told in said.items():
             status, out, line = run(*words)
-            self.assertEqual((status, out), (2, b""), words)
+            self.assertEqual((status, out, line.count("\n")), (2, b"", 1), words)
             self.assertIn(told, line)
 
 
@@ -439,8 +451,11 @@ class Output(unittest.TestCase):
         (PEDAL,),
         ("check", "--json", PEDAL),
         ("figures", PEDAL, "3"),
+        ("figures", PEDAL, "--upto", "9", "--json"),
         ("explain", PEDAL),
         ("show", PEDAL),
+        ("model", os.path.join(PEDAL, "pedal.model"), "-o", "-"),
+        ("graph", os.path.join(PEDAL, "pedal.graph"), "-o", "-"),
         ("--help",),
         ("--version",),
     )
@@ -465,7 +480,8 @@ class Output(unittest.TestCase):
     def test_standard_error_closed(self):
         """What is said beside a report goes nowhere, and not to standard output."""
         line = ["sh", "-c", 'exec "$@" 2>&-', "sh", sys.executable, LAGUIPY]
-        for words, status in ((("check", PEDAL), 0), ((), 0), (("show", "nowhere"), 1), (("figures", PEDAL), 2)):
+        wrong = ((("show", "nowhere"), 1), (("figures", PEDAL), 2), (("model",), 2))
+        for words, status in ((("check", PEDAL), 0), ((), 0), *wrong):
             came = subprocess.run([*line, *words], stdout=subprocess.PIPE, check=False)
             due = read(os.path.join(PEDAL, "expected.txt")) if status == 0 else b""
             self.assertEqual((came.returncode, came.stdout), (status, due), words)
