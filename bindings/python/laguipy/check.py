@@ -113,8 +113,15 @@ def unreadable(pair):
 
 def too_long(pair):
     """The files that the check program does not take."""
-    sizes = {path: len(pair.held[path]) if path in pair.held else os.path.getsize(path) for path in pair.paths}
-    return [path for path, size in sizes.items() if size > PROGRAM_BYTES]
+    return [path for path in dict.fromkeys(pair.paths) if size_of(pair, path) > PROGRAM_BYTES]
+
+
+def size_of(pair, path):
+    """How many bytes a file has; 0 where it is gone meanwhile."""
+    try:
+        return len(pair.held[path]) if path in pair.held else os.path.getsize(path)
+    except OSError:
+        return 0
 
 
 def pair_warnings(pair):

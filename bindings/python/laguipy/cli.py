@@ -10,7 +10,7 @@ import sys
 from . import check, explain, graphs, models, native, series, texts, where
 from .errors import InputError, UsageError
 from .files import STANDARD, at_most_one_standard, load, of, save
-from .findings import MEANING
+from .findings import ADVICE, FIGURE_REFUSALS, MEANING
 from .inputs import model_names, pair_of
 from .names import save_model
 from .output import DONE, REFUSED, USAGE, emit, guarded, plain, say, say_error
@@ -109,7 +109,9 @@ def refused(args, refusal):
         emit(json.dumps(data) + "\n")
     else:
         emit(f"{refusal}\n")
-        say(PROGRAM, f"{refusal.number}: {meaning}; `{PROGRAM} explain` says more")
+        # What the graph check accepts, explain has nothing to say of.
+        more = ADVICE[refusal.number] if refusal.number in FIGURE_REFUSALS else f"`{PROGRAM} explain` says more"
+        say(PROGRAM, f"{refusal.number}: {meaning}; {more}")
     return REFUSED
 
 

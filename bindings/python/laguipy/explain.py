@@ -19,19 +19,18 @@ class Explanation(NamedTuple):
     place: int
     finding: Optional[Finding]
     agrees: bool
-    root: Optional[int] = None
 
     def lines(self):
         if self.number == 0 and self.agrees:
             return [self.answer, "no rule is broken, so there is nothing to explain"]
         lines = [self.answer]
         if self.agrees:
-            lines.append(self.finding.text)
+            lines += [self.finding.placed] + [self.finding.sums] * bool(self.finding.sums)
             advice = self.finding.advice or ADVICE.get(self.number)
             lines.append(f"what to do: {advice}")
             lines.append(f"{OUTSIDE} Its number and place are the proved ones.")
             return lines
-        found = f"{self.finding.answer}: {self.finding.text}" if self.finding else "no broken rule"
+        found = f"{self.finding.answer}: {self.finding.placed}" if self.finding else "no broken rule"
         lines.append(f"{self.number}: {MEANING[self.number]}" if self.number else "the proved library accepts it")
         lines.append(f"{OUTSIDE} It does NOT agree with the proved answer: it finds {found}. The proved answer counts.")
         return lines
@@ -43,7 +42,8 @@ class Explanation(NamedTuple):
             "number": self.number,
             "place": self.place,
             "meaning": MEANING.get(self.number),
-            "explanation": found.text if found else None,
+            "explanation": found.placed if found else None,
+            "sums": found.sums or None if found else None,
             "advice": (found.advice or ADVICE.get(found.number)) if found else None,
             "agrees": self.agrees,
         }
@@ -57,12 +57,11 @@ def finding_of(model, graph, names):
 def explain(model, graph, names=None):
     """The explanation of what the graph check answers on two folders."""
     number = place = 0
-    root = None
     try:
-        root = native.graph_check(model, graph).root
+        native.graph_check(model, graph)
     except native.Refusal as refusal:
         number, place = refusal.number, refusal.place
     found = finding_of(model, graph, names)
     agrees = (found.number, found.place) == (number, place) if found else number == 0
     answer = f"refused {number} {place}" if number else "accepted"
-    return Explanation(answer, number, place, found, agrees, root)
+    return Explanation(answer, number, place, found, agrees)

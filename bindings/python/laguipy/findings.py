@@ -11,11 +11,20 @@ class Finding(NamedTuple):
     text: str
     subject: Tuple = ()  # what it is about, as ('variable', 2) or ('node', 3), where a line of text can be named
     advice: str = ""
+    at: str = ""  # where it is, for whoever has no line of text that says it
+    sums: str = ""  # how what is asked comes about, where it is a sum
 
     @property
     def answer(self):
         return f"refused {self.number} {self.place}"
 
+    @property
+    def placed(self):
+        """The text, with where it is."""
+        return f"{self.at}: {self.text}" if self.at else self.text
+
+
+FIGURE_REFUSALS = (26, 27, 28)  # those of a figure alone, on a graph that the graph check accepts
 
 # What to do, where the finding itself does not say it.
 ADVICE = {

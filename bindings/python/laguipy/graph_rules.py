@@ -162,6 +162,7 @@ class NodeRules:
         self.model, self.graph, self.names, self.texts = rules.model, rules.graph, rules.names, rules.texts
         self.first = rules.first
         self.advice = ""  # where a rule has several causes, and one its own remedy
+        self.sums = ""  # how what is asked comes about, where it is a sum
         self.in_label = Readings(self.model.entries, lambda v: node.label[v] if node.tracks(v) else None)
         self.in_state = Readings(self.model.entries, lambda v: node.concrete[v])
 
@@ -171,7 +172,8 @@ class NodeRules:
             why = row()
             if why:
                 state = self.names.state(self.node.concrete)
-                return Finding(number, self.n, f"node {self.n} ({state}) {why}", ("node", self.n), self.advice)
+                text, subject = f"node {self.n} ({state}) {why}", ("node", self.n)
+                return Finding(number, self.n, text, subject, self.advice, sums=self.sums)
         return None
 
     def name(self, v):
@@ -312,19 +314,20 @@ class NodeRules:
         if cover and value < cover.value:
             return f"holds {value}, less than its cover, node {self.node.cover}, which holds {cover.value}"
         for edge in self.graph.edges[self.n] if self.node.kind == EXPANDED else ():
-            asked, worked_out = self.asked(edge)
+            asked, sums = self.asked(edge)
             if value < asked:
-                return f"holds {value}, {self.names.command(edge.command)} asks for {asked} at least: {worked_out}"
+                self.sums = sums
+                return f"holds {value}, {self.names.command(edge.command)} asks for {asked} at least"
         return None
 
     def asked(self, edge):
-        """The least value that an edge allows, and how it is worked out."""
+        """The least value that an edge allows, and how it comes about."""
         records = range(self.first[edge.command], self.first[edge.command] + len(edge.successors))
         weights = [self.model.branches[r].weight for r in records]
         values = [self.graph.nodes[s].value for s in edge.successors]
         total = sum(weight * value for weight, value in zip(weights, values))
         told = " + ".join(f"{w} * {value} of node {s}" for w, value, s in zip(weights, values, edge.successors))
-        return -(-total // self.model.total), f"({told}) / {self.model.total}, rounded up"
+        return -(-total // self.model.total), f"that is ({told}) / {self.model.total}, rounded up"
 
 
 def graph_finding(model, data, names=None):

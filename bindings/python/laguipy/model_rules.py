@@ -134,7 +134,7 @@ class ModelRules:
             return None
         e = len(found) - 1
         text = f"{self.texts.told(e)} lies in {low}..{high}, and numbers stay in {-FARTHEST}..{FARTHEST}"
-        return Finding(6, e, text, ("expression", e))
+        return Finding(6, e, text, ("expression", e), at=f"expression {e}")
 
     def is_sort(self, e, sort):
         return e < len(self.model.entries) and sort_of(self.model.entries[e][0]) == sort
@@ -171,13 +171,16 @@ class ModelRules:
 
     def branches(self):
         for r, branch in enumerate(self.model.branches):
-            if branch.weight == 0:
-                return Finding(10, r, f"branch record {r}: its weight is 0: leave it out", ("branch", r))
-            for v, e in enumerate(branch.assigned):
-                why = self.assigned_fault(v, e)
-                if why:
-                    return Finding(10, r, why, ("branch", r))
+            faults = (self.assigned_fault(v, e) for v, e in enumerate(branch.assigned))
+            why = next(filter(None, faults), None) if branch.weight else "the weight is 0: leave the branch out"
+            if why:
+                return Finding(10, r, why, ("branch", r), at=self.branch_told(r))
         return None
+
+    def branch_told(self, r):
+        """A branch record, and whose it is: there are as many as the commands' counts add up to."""
+        c = next(c for c in range(len(self.model.commands)) if r in self.model.branches_of(c))
+        return f"branch record {r}, branch {r - self.model.first_record(c)} of {self.names.command(c)}"
 
     def assigned_fault(self, v, e):
         name, variable = self.names.variables[v], self.model.variables[v]

@@ -1,6 +1,7 @@
 """The command line as it is run: reports, statuses, standard input and output, and what it says of what is wrong."""
 import json
 import os
+import re
 import resource
 import shutil
 import signal
@@ -135,6 +136,14 @@ class Figures(Room):
         self.assertEqual(run("figures", PEDAL, "10001")[:2], (1, b"refused 27 0\n"))
         self.assertEqual(run("figures", PEDAL, "--upto", "99999")[:2], (1, b"refused 27 0\n"))
         self.assertEqual(run("figures", os.path.join(EXAMPLES, "refused_22"), "3")[:2], (1, b"refused 22 3\n"))
+        self.assertIn("27: figures are for at most 10000 steps; ask for at most", run("figures", PEDAL, "10001")[2])
+        text = re.sub("value [0-9_]+", "value S", read(os.path.join(PEDAL, "pedal.graph"), "r"))
+        waiting = text.replace("node 4 covered by 1", "node 4 waiting")
+        model, graph = os.path.join(PEDAL, "model.fold"), self.path("g.fold")
+        self.assertEqual(run("graph", self.path("g.graph", waiting), "-m", model, "-o", graph)[0], 0)
+        status, out, said = run("figures", model, graph, "3")
+        self.assertEqual((status, out), (1, b"refused 26 4\n"))
+        self.assertIn("explore on until no node waits", said)
         for digits in (5, 26, 5000):
             self.assertEqual(run("figures", PEDAL, "9" * digits)[:2], (1, b"refused 27 0\n"))
             self.assertEqual(run("figures", PEDAL, "--upto", "9" * digits)[:2], (1, b"refused 27 0\n"))
