@@ -7,7 +7,7 @@ import tempfile
 from . import native, where
 from .advice import warnings
 from .errors import InputError
-from .files import why
+from .files import named, why
 from .findings import MEANING
 from .folder import read_graph, read_model, shape_of
 from .inputs import Pair
@@ -36,24 +36,29 @@ def run_program(folder):
 
 def program_report(pair):
     """The proved program's report on a pair of files, wherever they stand."""
-    folders = {os.path.dirname(os.path.abspath(path)) for path in pair.paths}
-    passing = pair.passing()
-    if tuple(map(os.path.basename, pair.paths)) == NAMES and len(folders) == 1 and not passing:
-        return run_program(folders.pop())
-    # What comes only once may come to this process alone, as a pipe of the shell does: the program gets a copy.
-    copies = {path: pair.bytes_of(path)[: PROGRAM_BYTES + 1] for path in passing}
     try:
-        with tempfile.TemporaryDirectory(prefix="laguipy-") as room:
-            for name, path in zip(NAMES, pair.paths):
-                place = os.path.join(room, name)
-                if path in copies:
-                    with open(place, "wb") as file:
-                        file.write(copies[path])
-                else:
-                    os.symlink(os.path.realpath(path), place)
-            return run_program(room)
+        folders = {os.path.dirname(os.path.abspath(path)) for path in pair.paths}
+        named_so = tuple(map(os.path.basename, pair.paths)) == NAMES
+        if named_so and len(folders) == 1 and not pair.passing():
+            return run_program(folders.pop())
+        return report_elsewhere(pair)
     except OSError as error:
-        raise RunError(f"no room for the check program to run in: {why(error)}") from None
+        raise RunError(f"there is no place for the check program to run in: {why(error)}") from None
+
+
+def report_elsewhere(pair):
+    """The report, by links to the files in a folder of its own. What comes only once may come to this process alone, as
+    a pipe of the shell does: the program gets a copy."""
+    copies = {path: pair.bytes_of(path)[: PROGRAM_BYTES + 1] for path in pair.passing()}
+    with tempfile.TemporaryDirectory(prefix="laguipy-") as room:
+        for name, path in zip(NAMES, pair.paths):
+            place = os.path.join(room, name)
+            if path in copies:
+                with open(place, "wb") as file:
+                    file.write(copies[path])
+            else:
+                os.symlink(os.path.realpath(path), place)
+        return run_program(room)
 
 
 def library_report(pair):
@@ -107,7 +112,7 @@ def unreadable(pair):
                 with open(path, "rb") as file:
                     file.read(1)
         except (OSError, ValueError) as error:
-            found.append(f"cannot read {path}: {why(error)}")
+            found.append(f"cannot read {named(path)}: {why(error)}")
     return found
 
 

@@ -14,7 +14,7 @@ STANDARD = "-"
 
 def named(path):
     """A file that is read, for a reader."""
-    return "standard input" if path == STANDARD else path
+    return "standard input" if path == STANDARD else path or "''"
 
 
 def of(path, action):
@@ -95,17 +95,17 @@ def passing(path):
 
 def save(path, data, sources):
     """Writes a file, whole or not at all, so that nothing is lost where there is no room."""
-    real = os.path.realpath(path)
-    if real in [os.path.realpath(source) for source in sources if source != STANDARD]:
-        raise UsageError(f"{path} would be written over its own source")
     try:
+        real = os.path.realpath(path)
+        if real in [os.path.realpath(source) for source in sources if source != STANDARD]:
+            raise UsageError(f"{path} would be written over its own source")
         if os.path.exists(real) and not os.path.isfile(real):
             with open(real, "wb") as file:
                 file.write(data)
         else:
             replace(real, data)
     except (OSError, ValueError) as error:
-        raise RunError(f"{path}: cannot be written: {why(error)}") from None
+        raise RunError(f"{named(path)}: cannot be written: {why(error)}") from None
 
 
 def replace(path, data):

@@ -77,7 +77,7 @@ def refused_graph(path, model_path, model, written, refusal, names):
 
 def default_out(path, out, name):
     """Where a folder goes: as said, or under this name beside its text."""
-    if out:
+    if out is not None:
         return out
     return STANDARD if path == STANDARD else os.path.join(os.path.dirname(path), name)
 

@@ -434,6 +434,27 @@ class OddFiles(Room):
                     self.assertTrue(line.isprintable(), line)
                     self.assertEqual(told in line, self.room in line, line)
 
+    def test_no_name(self):
+        """A name that is empty, as that of a variable that is not set, and a folder that is gone."""
+        text = os.path.join(PEDAL, "pedal.model")
+        gone = self.path("gone")
+        os.mkdir(gone)
+        said = {
+            ("model", ""): (1, "'': cannot be read: No such file"),
+            ("show", ""): (1, "'': cannot be read: No such file"),
+            ("check", "x", self.MODEL): (3, "no place for the check program to run in: No such file"),
+            ("model", text, "-o", ""): (3, "'': cannot be written: "),
+            ("model", text, "-o", "x.fold"): (3, "x.fold: cannot be written: No such file"),
+        }
+        self.assertIn("cannot read '': No such file", run("check", "", self.MODEL)[2])
+        for words, (status, told) in said.items():
+            line = ["sh", "-c", 'cd "$0"; rmdir "$0"; "$@"; s=$?; mkdir "$0"; exit $s', gone]
+            line += [sys.executable, LAGUIPY, *words]
+            came = subprocess.run(line, stdout=subprocess.PIPE, stderr=subprocess.PIPE, check=False)
+            self.assertEqual(came.returncode, status, (words, came.stderr))
+            self.assertIn(told, came.stderr.decode())
+            self.assertNotIn(b"fault of this program", came.stderr)
+
     def test_line_ends(self):
         """Text with the line ends of other systems, tabs, and a mark of byte order."""
         for mark, old, new in ((b"", b"\n", b"\r\n"), (b"", b"\n", b"\r"), (b"\xef\xbb\xbf", b"  ", b"\t")):
