@@ -131,7 +131,10 @@ class Ticker:
         else:
             say(self.program, words)
 
-    def done(self):
+    def __enter__(self):
+        return self
+
+    def __exit__(self, *_):
         if self.live and self.shown:
             self.show("\r\033[K")
 

@@ -125,21 +125,20 @@ def told_time(seconds):
 def figures_for(model, graph, steps):
     """For each number of steps, ascending, all nodes' figures. Every call starts at round 0, so that all numbers up to
     H take time in the square of H; once two rounds are equal, so are all later ones, and no call is made."""
-    nodes, calls, ticker = native.graph_check(model, graph).nodes, calls_for(steps), Ticker()
-    estimate = Estimate(calls)
+    nodes, calls = native.graph_check(model, graph).nodes, calls_for(steps)
     rows = native.units(MOST_NODES), native.units(MOST_NODES)
-    last = before = None
-    for call in calls:
-        if last is None or last != before:
-            began = time.monotonic()
-            native.figure_rows(model, graph, call.h, *rows)
-            estimate.took(call.h, time.monotonic() - began)
-            last, before = rows[call.h % 2][:nodes], rows[1 - call.h % 2][:nodes] if call.h else None
-            if ticker.due():
-                ticker.tell(f"{call.h} of {steps[-1]} steps, some {told_time(estimate.left())} left")
-        for h in call.steps:
-            yield h, last if h == call.h else before
-    ticker.done()
+    estimate, last, before = Estimate(calls), None, None
+    with Ticker() as ticker:
+        for call in calls:
+            if last is None or last != before:
+                began = time.monotonic()
+                native.figure_rows(model, graph, call.h, *rows)
+                estimate.took(call.h, time.monotonic() - began)
+                last, before = rows[call.h % 2][:nodes], rows[1 - call.h % 2][:nodes] if call.h else None
+                if ticker.due():
+                    ticker.tell(f"{call.h} of {steps[-1]} steps, some {told_time(estimate.left())} left")
+            for h in call.steps:
+                yield h, last if h == call.h else before
 
 
 # ---- how they are written

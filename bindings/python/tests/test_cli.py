@@ -1,4 +1,5 @@
 """The command line as it is run: reports, statuses, standard input and output, and what it says of what is wrong."""
+import io
 import json
 import os
 import re
@@ -214,6 +215,15 @@ class Figures(Room):
         self.assertEqual((status, out), (0, run("figures", SCAN, "--upto", "300")[1]))
         self.assertIn("laguipy: 151 of 300 steps, some ", said)
         self.assertIn("laguipy: 300 of 300 steps, some 0 s left", said)
+
+    def test_on_a_terminal(self):
+        """A line that is written over, and is gone at the end, also where it is interrupted."""
+        seen = io.StringIO()
+        seen.isatty = lambda: True
+        with unittest.mock.patch.object(sys, "stderr", seen), self.assertRaises(KeyboardInterrupt), Ticker() as ticker:
+            ticker.tell("1 of 2 steps")
+            raise KeyboardInterrupt
+        self.assertEqual(seen.getvalue(), "\rlaguipy: 1 of 2 steps \033[K\r\033[K")
 
     def test_estimate(self):
         """Where the check takes 2 seconds and each round 3, what is left is just what they add up to."""
