@@ -14,6 +14,7 @@ use samples::build::holds;
 use samples::build::letter;
 use samples::build::part;
 use tally::PLACE;
+use tally::TALLY;
 use tally::WRONG;
 use tally::close_group;
 use tally::hold;
@@ -22,6 +23,8 @@ use tally::outcome_of;
 use tally::say;
 use witness::box_steps;
 use witness::figure_case;
+use witness::lookup::MOST_NUMBERS;
+use witness::lookup::index_case;
 use witness::zero_step;
 
 // The longest model and the longest graph, and one byte more of each.
@@ -63,7 +66,7 @@ fn unlike(row: &[u32], d: &[usize; 32]) -> usize {
     if row.len() == d[31] { 32 } else { 31 }
 }
 
-fn row_case(t: &mut [usize; 40], m: &[u8], g: &[u8], h: usize, d: &[usize; 32]) {
+fn row_case(t: &mut [usize; TALLY], m: &[u8], g: &[u8], h: usize, d: &[usize; 32]) {
     let mut first = [9u32; 8];
     let mut second = [9u32; 8];
     let row = laguipy::figure(m, g, h, &mut first, &mut second);
@@ -71,7 +74,7 @@ fn row_case(t: &mut [usize; 40], m: &[u8], g: &[u8], h: usize, d: &[usize; 32]) 
     hold(t, i == 32, i, unit(row, i));
 }
 
-fn summary_case(t: &mut [usize; 40], m: &[u8], g: &[u8], d: &[usize; 32]) {
+fn summary_case(t: &mut [usize; TALLY], m: &[u8], g: &[u8], d: &[usize; 32]) {
     let a = laguipy::graph_check(m, g);
     match a {
         GraphAnswer::Accepted(s) => {
@@ -84,29 +87,55 @@ fn summary_case(t: &mut [usize; 40], m: &[u8], g: &[u8], d: &[usize; 32]) {
 }
 
 // By the plain call and by the struct.
-fn record_case(t: &mut [usize; 40], m: &[u8], e: usize, i: usize, d: &[usize; 32]) {
+fn record_case(t: &mut [usize; TALLY], m: &[u8], e: usize, i: usize, d: &[usize; 32]) {
     let plain = laguipy::record_part(m, e, i);
     let held = view::record_of(m, e, i);
     let right = holds(plain, d) & holds(held, d);
     hold(t, right, plain.len(), long(plain, 0));
 }
 
+// FNV-1a of the bytes that a line names, step by step.
+fn hash_of(a: &[usize; 32]) -> u32 {
+    let mut h = hash::FNV_START;
+    let mut i = 0;
+    while i < MOST_NUMBERS {
+        if i < a[MOST_NUMBERS] {
+            h = hash::fnv_step(h, (a[i] % 256) as u8);
+        }
+        i += 1;
+    }
+    h
+}
+
+fn hash_case(t: &mut [usize; TALLY], a: &[usize; 32], d: &[usize; 32]) {
+    let h = wide(hash_of(a));
+    hold(t, h == d[0], h, 0);
+}
+
 // Lines whose answer is no refusal.
-fn value_case(t: &mut [usize; 40], m: &[u8], g: &[u8], kind: u8, a: &[usize; 32], d: &[usize; 32]) {
+fn value_case(
+    t: &mut [usize; TALLY],
+    m: &[u8],
+    g: &[u8],
+    kind: u8,
+    a: &[usize; 32],
+    d: &[usize; 32],
+) {
     match kind {
         b'r' => row_case(t, m, g, a[0], d),
         b'c' => summary_case(t, m, g, d),
         b'v' => record_case(t, m, a[1], a[2], d),
+        b'h' => hash_case(t, a, d),
         _ => hold(t, false, 0, 0),
     }
 }
 
-fn graph_case(t: &mut [usize; 40], m: &[u8], g: &[u8], number: usize, place: usize) {
+fn graph_case(t: &mut [usize; TALLY], m: &[u8], g: &[u8], number: usize, place: usize) {
     judge(t, outcome_of(laguipy::graph_check(m, g)), number, place);
 }
 
 fn asked_case(
-    t: &mut [usize; 40],
+    t: &mut [usize; TALLY],
     room: &[u8],
     f: Folders,
     kind: u8,
@@ -119,6 +148,7 @@ fn asked_case(
         b'm' | b'z' => judge(t, laguipy::model_check(m), d[0], d[1]),
         b'g' | b'Z' => graph_case(t, m, g, d[0], d[1]),
         b'f' => figure_case(t, m, g, a, d),
+        b'i' => index_case(t, m, g, a, d),
         b's' => zero_step(t, m, a[1], a[0], a[2], a[3]),
         b'b' => box_steps(t, m),
         _ => value_case(t, m, g, kind, a, d),
@@ -141,7 +171,7 @@ fn named(f: Folders, kind: u8, length: usize) -> Folders {
 }
 
 // The changes that a line names are made for it, and then undone.
-fn case(t: &mut [usize; 40], room: &mut [u8], f: Folders, kind: u8, body: &[u8]) {
+fn case(t: &mut [usize; TALLY], room: &mut [u8], f: Folders, kind: u8, body: &[u8]) {
     let a = asked(body);
     let d = due(body);
     let base = if kind == b'm' { 0 } else { GRAPH };
@@ -156,7 +186,7 @@ fn case(t: &mut [usize; 40], room: &mut [u8], f: Folders, kind: u8, body: &[u8])
 }
 
 // A line, with its end; the folders after it.
-fn line(t: &mut [usize; 40], room: &mut [u8], f: Folders, text: &[u8]) -> Folders {
+fn line(t: &mut [usize; TALLY], room: &mut [u8], f: Folders, text: &[u8]) -> Folders {
     let body = part(text, 2, find(text, 0, b';'));
     let mut after = f;
     let kind = letter(text, 0);
@@ -176,7 +206,7 @@ fn tell(wrong: bool, text: &[u8]) {
     }
 }
 
-fn run(t: &mut [usize; 40], room: &mut [u8], script: &[u8]) {
+fn run(t: &mut [usize; TALLY], room: &mut [u8], script: &[u8]) {
     let mut f = Folders { model: 0, graph: 0 };
     let mut at = 0;
     let mut i = 0;
@@ -193,14 +223,14 @@ fn run(t: &mut [usize; 40], room: &mut [u8], script: &[u8]) {
 }
 
 // A script that fills its room may have been cut: that is wrong, at line 0.
-fn start(t: &mut [usize; 40], room: &mut [u8; ROOM], script: &mut [u8; SCRIPT_ROOM]) {
+fn start(t: &mut [usize; TALLY], room: &mut [u8; ROOM], script: &mut [u8; SCRIPT_ROOM]) {
     let n = io::read_full(0, script);
     hold(t, n < SCRIPT_ROOM, n, 0);
     run(t, room, head(script, n));
 }
 
 fn main() {
-    let mut t = [0; 40];
+    let mut t = [0; TALLY];
     let mut room = [0; ROOM];
     let mut script = [0; SCRIPT_ROOM];
     start(&mut t, &mut room, &mut script);

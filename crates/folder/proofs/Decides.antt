@@ -1,10 +1,12 @@
 -- A test decides a rule: it passes if and only if the rule holds. One law for each connective.
 -- Assumes nothing.
-use Prim.Native.Nat.{ℕ, _≤_, _<_}
+use Prim.Native.Nat.{ℕ, suc, _≤_, _<_}
 use mathlib.Core.Path.{_≡_, refl, sym, _∙_}
 use mathlib.Core.Bool.{Bool, true, false, not, _&&_, _||_, false≢true}
 use mathlib.Core.Logic.{_⊎_, inl, inr, ⊎-elim}
 use mathlib.Core.List.{List, [], _∷_}
+use native.Mathlib.Nat.{eq-or-lt-of-le, le-of-suc-le-suc}
+use native.Mathlib.Omega.{arith}
 use borrow.Author.Tests.{ltb-true, leb-true, eqb-true, lt-ltb, le-leb, eq-eqb}
 use lib.Dec.{T, ltb, leb, eqb}
 use lib.IntN.{ℤ}
@@ -151,3 +153,12 @@ pub all-both : (n : ℕ) (a b : ℕ → Bool) → all (λ k. a k && b k) n ≡ (
 all-both n a b = same-test
     (reworded (λ h. ((λ k l. h k l .0), λ k l. h k l .1)) (λ h k l. (h .0 k l, h .1 k l)) (everywhere n (λ k l. passes (a k) ∧also passes (b k))))
     (everywhere n (λ k l. passes (a k)) ∧also everywhere n (λ k l. passes (b k)))
+
+pub all-suc : (ok : ℕ → Bool) (n : ℕ) → all ok (suc n) ≡ (all ok n && ok n)
+all-suc ok n =
+    same-test
+    (everywhere (suc n) (λ k l. passes (ok k)))
+    (reworded
+    (λ h k l. ⊎-elim (λ (e : k ≡ n). rw e (h .1)) (λ m. h .0 k m) (eq-or-lt-of-le (le-of-suc-le-suc l)))
+    (λ h. ((λ k l. h k (omega arith)), h n (omega arith)))
+    (everywhere n (λ k l. passes (ok k)) ∧also passes (ok n)))

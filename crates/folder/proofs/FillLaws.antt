@@ -2,12 +2,12 @@
 -- Assumes nothing.
 use Prim.Native.Nat.{ℕ, suc, _+_, _-_, _≤_, _<_, zero-le}
 use mathlib.Core.Path.{_≡_, refl, sym, ap, _∙_}
-use mathlib.Core.List.{List, _++_, append-assoc}
+use mathlib.Core.List.{List, _++_, append-assoc, append-nil}
 use native.Mathlib.Decide.{decLt}
 use native.Mathlib.Numerals.{add-one}
 use native.Mathlib.Omega.{arith}
 use lib.ListN.{length, getD, take, drop, set, replicate, getD-replicate, length-replicate, length-append, length-drop, length-set, List·getD-append, List·getD-eq-default}
-use lib.Seq.{drop-cons, set-at, take-at, drop-at, getD-append-add, getD-drop}
+use lib.Seq.{drop-cons, drop-length, set-at, take-at, drop-at, getD-append-add, getD-drop}
 use Rattle.folder.specs.Tab.{tab, fill}
 use Rattle.folder.proofs.TabLaws.{length-tab, getD-tab, tab-same, tab-own}
 
@@ -38,6 +38,10 @@ module _ {A : Type 0} where
 
   pub drop-filled : (n : ℕ) (f : ℕ → A) (d : List A) → drop n (fill n f d) ≡ drop n d
   drop-filled n f d = drop-at (tab n f) (drop n d) n (length-tab n f)
+
+  -- A row that is filled whole.
+  pub fill-whole : (f : ℕ → A) (d : List A) → fill (length d) f d ≡ tab (length d) f
+  fill-whole f d = ap (λ (l : List A). tab (length d) f ++ l) (drop-length d) ∙ append-nil (tab (length d) f)
 
   -- Two functions with the same first n values.
   pub fill-same : (n : ℕ) (f g : ℕ → A) (d : List A) → ((i : ℕ) → i < n → f i ≡ g i) → fill n f d ≡ fill n g d

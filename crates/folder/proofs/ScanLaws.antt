@@ -2,9 +2,10 @@
 -- Assumes nothing.
 use Prim.Native.Nat.{ℕ, zero, suc, _+_, _≤_, _<_, zero-le}
 use mathlib.Core.Path.{_≡_, refl, sym, ap, _∙_, subst}
-use mathlib.Core.Bool.{Bool, true, false}
+use mathlib.Core.Bool.{Bool, true, false, false≢true}
 use mathlib.Core.Logic.{_⊎_, inl, inr, ⊎-elim}
 use native.Mathlib.Nat.{le-of-suc-le-suc, eq-or-lt-of-le, not-suc-le-zero, le-refl, lt-irrefl}
+use native.Mathlib.Decide.{decLe}
 use native.Mathlib.Numerals.{add-one}
 use native.Mathlib.Omega.{arith}
 use borrow.Author.Count.{below-more}
@@ -82,6 +83,21 @@ module _ (ok : ℕ → Bool) where
 
   pub found-at : (n p : ℕ) → p < n → ((k : ℕ) → k < p → ok k ≡ true) → ok p ≡ false → firstBad ok n ≡ p
   found-at n p l b h = scan-stop p n (all-found p b) h l
+
+  -- it is no later than a place that is not ok
+  pub stops-by : (n k : ℕ) → k < n → ok k ≡ false → firstBad ok n ≤ k
+  stops-by n k l e = elim (decLe (firstBad ok n) k) [
+    | yes h ↦ h
+    | no g ↦ absurd (false≢true (sym e ∙ found n .before k (omega arith)))
+  ]
+
+-- two tests that agree
+pub first-same : (a b : ℕ → Bool) (n : ℕ) → ((k : ℕ) → k < n → a k ≡ b k) → firstBad a n ≡ firstBad b n
+first-same a b n h = go (eq-or-lt-of-le (found b n .within))
+  where
+    go : (firstBad b n ≡ n) ⊎ (firstBad b n < n) → firstBad a n ≡ firstBad b n
+    go (inl e) = all-found a n (λ k l. h k l ∙ found b n .before k (rw e l)) ∙ sym e
+    go (inr l) = found-at a n (firstBad b n) l (λ k m. h k (omega arith) ∙ found b n .before k m) (h (firstBad b n) l ∙ found b n .broken l)
 
 -- ---- the four facts of a scan in the code, `while i < n { if ok(i) { i += 1 } else { return i } } i`, whose invariant is `Scanned ok n i`; t is what the code's test of place i answers
 pub record Scanned (ok : ℕ → Bool) (n i : ℕ) : Type 0 where

@@ -38,6 +38,12 @@ module _ {A : Type 0} where
   pub tab-own : (d : A) (l : List A) → tab (length l) (λ i. getD l i d) ≡ l
   tab-own d l = ext-getD d _ l (length-tab (length l) _) (λ i h. getD-tab d (length l) (λ k. getD l k d) i (rw length-tab at h))
 
+  -- What is read within a list does not hang on what is read past it.
+  pub getD-within : (l : List A) (i : ℕ) (d e : A) → i < length l → getD l i d ≡ getD l i e
+  getD-within [] i d e h = absurd (not-suc-le-zero h)
+  getD-within (x ∷ xs) zero d e h = refl
+  getD-within (x ∷ xs) (suc i) d e h = getD-within xs i d e (le-of-suc-le-suc h)
+
   pub same-tab : (n : ℕ) (f g : ℕ → A) → tab n f ≡ tab n g → (i : ℕ) → i < n → f i ≡ g i
   same-tab n f g e i l = sym (getD-tab (f 0) n f i l) ∙ ap (λ (t : List A). getD t i (f 0)) e ∙ getD-tab (f 0) n g i l
 

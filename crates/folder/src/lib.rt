@@ -13,7 +13,7 @@ pub const FIELD_LIMIT: usize = 65536;
 // Two's complement: from half the limit on a field is negative, and the whole of it is taken away.
 const HALF_LIMIT: usize = FIELD_LIMIT / 2;
 
-const SIGNED_SPAN: i64 = FIELD_LIMIT as i64;
+pub const SIGNED_SPAN: i64 = FIELD_LIMIT as i64;
 
 // A refusal: its number in document 01's table, and the place that the table returns with it.
 pub struct Refusal {

@@ -250,7 +250,7 @@ first-ask M g = put-so
 rows-ask : (M : Model) (g : List ℕ) → AllHold (graphRows M g) ↔ (RowsRight M g × RulesRight M (simulationOf M g))
 rows-ask M g = tables-ask (firstRows M g) (first-ask M g) (rules-ask M (simulationOf M g))
 
-graph-asks : (m g : List ℕ) → AllHold (modelRows m ++ graphRows (modelOf m) g) ↔ Valid m g
+pub graph-asks : (m g : List ℕ) → AllHold (modelRows m ++ graphRows (modelOf m) g) ↔ Valid m g
 graph-asks m g = put-so
     (tables-ask (modelRows m) (model-asks m) (rows-ask (modelOf m) g))
     (λ h. record { model = h .0; rows = h .1 .0; rules = h .1 .1 })

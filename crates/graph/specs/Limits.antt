@@ -19,3 +19,7 @@ mostNodes = 4096
 -- Steps of a figure.
 abbrev pub mostSteps : ℕ
 mostSteps = 10000
+
+-- Slots of the index.
+abbrev pub slotCount : ℕ
+slotCount = 8192

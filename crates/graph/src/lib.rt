@@ -33,6 +33,8 @@ const LEAST_BYTES: usize = 16;
 const MOST_BYTES: usize = 1048576;
 
 pub const MOST_NODES: usize = 4096;
+// Slots of the index.
+pub const SLOTS: usize = 8192;
 
 // Kinds of a node.
 pub const WAITING: usize = 0;

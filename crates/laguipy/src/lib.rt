@@ -4,6 +4,7 @@
 use folder::Outcome;
 use graph::GraphAnswer;
 use graph::Summary;
+use index::IndexAnswer;
 ghost use mathlib.Core.Path.{_≡_};
 ghost use Prim.Native.Nat.{_+_};
 ghost use Rattle.folder.specs.Pick.{pick};
@@ -11,6 +12,7 @@ ghost use Rattle.model.specs.Table.{modelOutcome};
 ghost use Rattle.model.specs.View.{viewStart, viewPart};
 ghost use Rattle.model.specs.Step.{stepOutcome, stepRow};
 ghost use Rattle.graph.specs.Table.{graphOutcome, graphAnswer};
+ghost use Rattle.index.specs.Index.{indexAnswer, slotsRow, answersRow, listingRow};
 ghost use Rattle.graph.specs.Figures.{figureOutcome, firstRow, secondRow, figurePart, figureInFirst};
 
 // The model check: rows 1 to 11.
@@ -102,6 +104,28 @@ pub fn figure<'a>(
     match o {
         Outcome::Refused(_) => &mut first[..0],
         Outcome::Accepted => figures::figure_part(model, graph, h, first, second),
+    }
+}
+
+// The index call: the slots filled afresh, for each state of the batch the lowest node with that concrete label, and every
+// uncovered node that is not the lowest uncovered one of its concrete label.
+pub fn index(
+    model: &[u8],
+    graph: &[u8],
+    slots: &mut [u16],
+    batch: &[i16],
+    answers: &mut [u16],
+    listing: &mut [u16],
+) -> IndexAnswer
+    ensures { λ r. ⌜ r ≡ indexAnswer (now (model .entry)) (now (graph .entry)) (now (slots .entry)) (now (batch .entry)) (now (answers .entry)) (now (listing .entry)) ⌝ }
+    ensures { λ _. ⌜ now (slots .exit) ≡ slotsRow (now (model .entry)) (now (graph .entry)) (now (slots .entry)) (now (batch .entry)) (now (answers .entry)) (now (listing .entry)) ⌝ }
+    ensures { λ _. ⌜ now (answers .exit) ≡ answersRow (now (model .entry)) (now (graph .entry)) (now (slots .entry)) (now (batch .entry)) (now (answers .entry)) (now (listing .entry)) ⌝ }
+    ensures { λ _. ⌜ now (listing .exit) ≡ listingRow (now (model .entry)) (now (graph .entry)) (now (slots .entry)) (now (batch .entry)) (now (answers .entry)) (now (listing .entry)) ⌝ }
+{
+    let o = graph_outcome(model, graph);
+    match o {
+        Outcome::Refused(f) => IndexAnswer::Refused(f),
+        Outcome::Accepted => index::index_fill(model, graph, slots, batch, answers, listing),
     }
 }
 

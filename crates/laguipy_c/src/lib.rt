@@ -3,6 +3,7 @@
 // acceptance, and writes what comes with it into numbers that the caller lends, which are written on every call.
 use folder::Outcome;
 use graph::GraphAnswer;
+use index::IndexAnswer;
 ghost use mathlib.Core.Path.{_≡_};
 ghost use Prim.Native.Nat.{_<_};
 ghost use Rattle.folder.specs.Pick.{pick};
@@ -13,6 +14,7 @@ ghost use Rattle.model.specs.View.{viewStart};
 ghost use Rattle.model.specs.Step.{stepOutcome, stepRow};
 ghost use Rattle.graph.specs.Table.{graphAnswer, answerNumber, answerPlace, answerValues};
 ghost use Rattle.graph.specs.Figures.{figureOutcome, inFirst, firstRow, secondRow};
+ghost use Rattle.index.specs.Index.{indexAnswer, slotsRow, answersRow, listingRow, indexNumber, indexPlace, indexListed};
 ghost use Rattle.laguipy_c.specs.Answers.{viewPlace, figurePlace};
 
 fn number_of(o: Outcome) -> usize
@@ -202,6 +204,58 @@ pub extern "C" fn laguipy_figure(
             f.number
         }
     }
+}
+
+fn index_number(a: IndexAnswer) -> usize
+    ensures { λ r. ⌜ r ≡ indexNumber a ⌝ }
+{
+    match a {
+        IndexAnswer::Accepted(_) => 0,
+        IndexAnswer::Refused(f) => f.number,
+    }
+}
+
+fn index_place(a: IndexAnswer) -> usize
+    ensures { λ r. ⌜ r ≡ indexPlace a ⌝ }
+{
+    match a {
+        IndexAnswer::Accepted(_) => 0,
+        IndexAnswer::Refused(f) => f.place,
+    }
+}
+
+fn index_listed(a: IndexAnswer) -> usize
+    ensures { λ r. ⌜ r ≡ indexListed a ⌝ }
+{
+    match a {
+        IndexAnswer::Accepted(n) => n,
+        IndexAnswer::Refused(_) => 0,
+    }
+}
+
+// The index call.
+#[no_mangle]
+pub extern "C" fn laguipy_index(
+    model: &[u8],
+    graph: &[u8],
+    slots: &mut [u16],
+    batch: &[i16],
+    answers: &mut [u16],
+    listing: &mut [u16],
+    place: &mut usize,
+    listed: &mut usize,
+) -> usize
+    ensures { λ r. ⌜ r ≡ indexNumber (indexAnswer (now (model .entry)) (now (graph .entry)) (now (slots .entry)) (now (batch .entry)) (now (answers .entry)) (now (listing .entry))) ⌝ }
+    ensures { λ _. ⌜ now (slots .exit) ≡ slotsRow (now (model .entry)) (now (graph .entry)) (now (slots .entry)) (now (batch .entry)) (now (answers .entry)) (now (listing .entry)) ⌝ }
+    ensures { λ _. ⌜ now (answers .exit) ≡ answersRow (now (model .entry)) (now (graph .entry)) (now (slots .entry)) (now (batch .entry)) (now (answers .entry)) (now (listing .entry)) ⌝ }
+    ensures { λ _. ⌜ now (listing .exit) ≡ listingRow (now (model .entry)) (now (graph .entry)) (now (slots .entry)) (now (batch .entry)) (now (answers .entry)) (now (listing .entry)) ⌝ }
+    ensures { λ _. ⌜ now (place .exit) ≡ indexPlace (indexAnswer (now (model .entry)) (now (graph .entry)) (now (slots .entry)) (now (batch .entry)) (now (answers .entry)) (now (listing .entry))) ⌝ }
+    ensures { λ _. ⌜ now (listed .exit) ≡ indexListed (indexAnswer (now (model .entry)) (now (graph .entry)) (now (slots .entry)) (now (batch .entry)) (now (answers .entry)) (now (listing .entry))) ⌝ }
+{
+    let a = laguipy::index(model, graph, slots, batch, answers, listing);
+    *place = index_place(a);
+    *listed = index_listed(a);
+    index_number(a)
 }
 
 // The step of a state by a branch of a command, into a lent row.

@@ -208,6 +208,72 @@ pub fn concrete(m: &[u8], g: &[u8], i: usize) -> [usize; MOST_VARIABLES] {
     values_at(g, add(node_start(m, g, i), 12), 2, variables(m))
 }
 
+pub fn is_covered(m: &[u8], g: &[u8], i: usize) -> bool {
+    field(g, node_start(m, g, i)) == 2
+}
+
+fn same_state(a: &[usize; MOST_VARIABLES], b: &[usize; MOST_VARIABLES]) -> bool {
+    let mut i = 0;
+    while i < MOST_VARIABLES {
+        if a[i] != b[i] {
+            return false;
+        }
+        i += 1;
+    }
+    true
+}
+
+// Node i has the concrete label s; and it is uncovered, where that is asked.
+fn is_like(m: &[u8], g: &[u8], s: &[usize; MOST_VARIABLES], i: usize, uncovered: bool) -> bool {
+    same_state(&concrete(m, g, i), s) & !(uncovered & is_covered(m, g, i))
+}
+
+// The lowest such node below n, n if there is none.
+pub fn first_like(
+    m: &[u8],
+    g: &[u8],
+    s: &[usize; MOST_VARIABLES],
+    n: usize,
+    uncovered: bool,
+) -> usize {
+    let mut i = 0;
+    while i < n {
+        if is_like(m, g, s, i, uncovered) {
+            return i;
+        }
+        i += 1;
+    }
+    n
+}
+
+// A step of FNV-1a.
+fn hashed(h: usize, byte: usize) -> usize {
+    mul(h ^ byte, 16777619) % 4294967296
+}
+
+// The 2-byte field of a whole number.
+fn field_of(x: usize) -> usize {
+    if x < ZERO {
+        sub(add(FIELD_LIMIT, x), ZERO)
+    } else {
+        sub(x, ZERO)
+    }
+}
+
+// FNV-1a of the first n values' bytes.
+pub fn hash_of(s: &[usize; MOST_VARIABLES], n: usize) -> usize {
+    let mut h = 2166136261;
+    let mut i = 0;
+    while i < MOST_VARIABLES {
+        if i < n {
+            let u = field_of(s[i]);
+            h = hashed(hashed(h, u % 256), u / 256);
+        }
+        i += 1;
+    }
+    h
+}
+
 // The state that a branch gives; all its entries read the old one.
 pub fn next(m: &[u8], s: &[usize; MOST_VARIABLES], c: usize, b: usize) -> [usize; MOST_VARIABLES] {
     let r = add(first_branch(m, c), b);

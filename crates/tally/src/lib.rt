@@ -1,4 +1,4 @@
-// The tally of a run: at 0 to 33 how often each answer was seen, by its number (0 for acceptance); after them the cases
+// The tally of a run: at 0 to the last refusal's number how often each answer was seen, by its number (0 for acceptance); after them the cases
 // of the group that is being run, and of all groups the wrong ones, the steps compared with the solver's, the bounds
 // tried and those whose numbers are past 64 bits; last where the run is, by a line of the script or a varied folder.
 // What is wrong is told as it is found. Safe and ending on any arguments; its contracts say no more.
@@ -6,17 +6,23 @@ use clamped::add;
 use folder::Outcome;
 use graph::GraphAnswer;
 
-pub const CASES: usize = 34;
+// The last refusal of the table.
+const LAST: usize = 34;
 
-pub const WRONG: usize = 35;
+pub const CASES: usize = LAST + 1;
 
-pub const STEPS: usize = 36;
+pub const WRONG: usize = LAST + 2;
 
-pub const BOUNDS: usize = 37;
+pub const STEPS: usize = LAST + 3;
 
-pub const TOO_BIG: usize = 38;
+pub const BOUNDS: usize = LAST + 4;
 
-pub const PLACE: usize = 39;
+pub const TOO_BIG: usize = LAST + 5;
+
+pub const PLACE: usize = LAST + 6;
+
+// How long a tally is.
+pub const TALLY: usize = LAST + 7;
 
 pub fn say(text: &[u8]) {
     io::write_all(1, text);
@@ -26,8 +32,8 @@ fn say_number(n: usize) {
     io::print_decimal(1, n as u64);
 }
 
-pub fn count(t: &mut [usize; 40], k: usize) {
-    if k < 40 {
+pub fn count(t: &mut [usize; TALLY], k: usize) {
+    if k < TALLY {
         t[k] = add(t[k], 1);
     }
 }
@@ -54,7 +60,7 @@ pub fn outcome_of(a: GraphAnswer) -> Outcome {
 }
 
 // A case that is due to hold; where it does not, the place in the run and two numbers that came are told.
-pub fn hold(t: &mut [usize; 40], ok: bool, first: usize, second: usize) {
+pub fn hold(t: &mut [usize; TALLY], ok: bool, first: usize, second: usize) {
     count(t, CASES);
     if ok {
         return;
@@ -70,7 +76,7 @@ pub fn hold(t: &mut [usize; 40], ok: bool, first: usize, second: usize) {
 }
 
 // A case whose answer is due to be this number and place.
-pub fn judge(t: &mut [usize; 40], o: Outcome, number: usize, place: usize) {
+pub fn judge(t: &mut [usize; TALLY], o: Outcome, number: usize, place: usize) {
     let n = number_of(o);
     let p = place_of(o);
     count(t, n);
@@ -78,7 +84,7 @@ pub fn judge(t: &mut [usize; 40], o: Outcome, number: usize, place: usize) {
 }
 
 // The line of a group, whose count starts anew.
-pub fn close_group(t: &mut [usize; 40], name: &[u8]) {
+pub fn close_group(t: &mut [usize; TALLY], name: &[u8]) {
     say_count(name, t[CASES]);
     t[CASES] = 0;
 }
@@ -104,15 +110,15 @@ fn say_seen(k: usize, n: usize) {
     say_count(b"", n);
 }
 
-fn say_all_seen(t: &[usize; 40]) {
+fn say_all_seen(t: &[usize; TALLY]) {
     let mut i = 1;
-    while i < 34 {
+    while i <= LAST {
         say_seen(i, t[i]);
         i += 1;
     }
 }
 
-pub fn say_table(t: &[usize; 40]) {
+pub fn say_table(t: &[usize; TALLY]) {
     say_count(b"steps compared with the solver's", t[STEPS]);
     say_count(b"bounds tried by the solver", t[BOUNDS]);
     say_count(b"bounds past 64 bits, not tried", t[TOO_BIG]);

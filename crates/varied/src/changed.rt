@@ -14,6 +14,7 @@ use samples::build::put16;
 use samples::build::put32;
 use samples::build::set;
 use tally::PLACE;
+use tally::TALLY;
 use tally::close_group;
 use tally::count;
 use tally::hold;
@@ -23,6 +24,7 @@ use tally::outcome_of;
 use tally::place_of;
 use witness::bounds;
 use witness::box_steps;
+use witness::lookup::index_as;
 use witness::rows_case;
 
 // The greatest D: it is a field of 2 bytes.
@@ -30,7 +32,7 @@ const MOST_TOTAL: usize = FIELD_LIMIT - 1;
 
 // An accepted model with a graph whose answer has the number n: steps where they are asked for, bounds where the graph is
 // accepted.
-fn accepted(t: &mut [usize; 40], m: &[u8], g: &[u8], n: usize, steps: bool) {
+fn accepted(t: &mut [usize; TALLY], m: &[u8], g: &[u8], n: usize, steps: bool) {
     count(t, n);
     hold(t, (n == 0) | (n > 11), n, 0);
     if steps {
@@ -41,12 +43,14 @@ fn accepted(t: &mut [usize; 40], m: &[u8], g: &[u8], n: usize, steps: bool) {
     }
 }
 
-// A model and a graph: a refused model refuses the graph. Refused or not, the figure call leaves its rows as it should.
-fn pair(t: &mut [usize; 40], m: &[u8], g: &[u8], steps: bool) {
+// A model and a graph: a refused model refuses the graph. Refused or not, the figure call and the
+// index call leave their rows as they should.
+fn pair(t: &mut [usize; TALLY], m: &[u8], g: &[u8], steps: bool) {
     rows_case(t, m, g, 2, 6, 7);
     rows_case(t, m, g, 3, 7, 6);
     let o = laguipy::model_check(m);
     let a = outcome_of(laguipy::graph_check(m, g));
+    index_as(t, m, g, a);
     let n = number_of(o);
     count(t, n);
     if n == 0 {
@@ -68,7 +72,7 @@ fn vary(s: &mut [u8], i: usize, way: usize) {
     set(s, i, add(mul(b, times), more));
 }
 
-fn varied(t: &mut [usize; 40], of_graph: bool, i: usize) {
+fn varied(t: &mut [usize; TALLY], of_graph: bool, i: usize) {
     let mut m = [0u8; 178];
     let mut g = [0u8; 152];
     pedal_model(&mut m);
@@ -79,7 +83,7 @@ fn varied(t: &mut [usize; 40], of_graph: bool, i: usize) {
 }
 
 // n folders, every byte of the model or of the graph in four ways.
-fn folders(t: &mut [usize; 40], of_graph: bool, first: usize, n: usize) {
+fn folders(t: &mut [usize; TALLY], of_graph: bool, first: usize, n: usize) {
     let mut i = 0;
     while i < n {
         t[PLACE] = add(first, i);
@@ -112,12 +116,12 @@ fn weigh_graph(g: &mut [u8], d: usize, w: usize) {
     put32(g, 80, root);
 }
 
-fn graph_case(t: &mut [usize; 40], m: &[u8], g: &[u8], number: usize, place: usize) {
+fn graph_case(t: &mut [usize; TALLY], m: &[u8], g: &[u8], number: usize, place: usize) {
     judge(t, outcome_of(laguipy::graph_check(m, g)), number, place);
 }
 
 // The value at an offset less one unit.
-fn lowered(t: &mut [usize; 40], m: &[u8], g: &mut [u8], at: usize, node: usize) {
+fn lowered(t: &mut [usize; TALLY], m: &[u8], g: &mut [u8], at: usize, node: usize) {
     let value = long(g, at);
     put32(g, at, sub(value, 1));
     graph_case(t, m, g, 25, node);
@@ -126,7 +130,7 @@ fn lowered(t: &mut [usize; 40], m: &[u8], g: &mut [u8], at: usize, node: usize) 
 
 // For w under d: accepted with the least values, and refused one unit below at each node that is not a target or a dead
 // end.
-fn weighed(t: &mut [usize; 40], d: usize, w: usize) {
+fn weighed(t: &mut [usize; TALLY], d: usize, w: usize) {
     if d <= w {
         return;
     }
@@ -142,7 +146,7 @@ fn weighed(t: &mut [usize; 40], d: usize, w: usize) {
 }
 
 // All weights for D to 13, and some for D near its limit, folders from 2001 on.
-fn families(t: &mut [usize; 40]) {
+fn families(t: &mut [usize; TALLY]) {
     let mut i = 0;
     while i < 144 {
         let d = 2 + i / 12;
@@ -154,7 +158,7 @@ fn families(t: &mut [usize; 40]) {
     }
 }
 
-pub fn all(t: &mut [usize; 40]) {
+pub fn all(t: &mut [usize; TALLY]) {
     folders(t, false, 1, 712);
     close_group(t, b"cases of models with a byte changed");
     folders(t, true, 1001, 608);

@@ -1,5 +1,7 @@
-// The library's steps, figures and root values against the solver's, and the figure call's answers and rows. Safe and
-// ending on any arguments; its contracts say no more.
+// The library's steps, figures and root values against the solver's, and the figure and index calls' answers and rows.
+// Safe and ending on any arguments; its contracts say no more.
+pub mod lookup;
+
 use clamped::HALF_LIMIT;
 use clamped::add;
 use clamped::sub;
@@ -9,6 +11,7 @@ use solver::Trial;
 use solver::ZERO;
 use tally::BOUNDS;
 use tally::STEPS;
+use tally::TALLY;
 use tally::TOO_BIG;
 use tally::count;
 use tally::hold;
@@ -81,7 +84,7 @@ fn due_row(
 // The step of the first n values of a state into a row of `room` values: the answer, the new state, and the rest of the
 // row.
 fn step_case(
-    t: &mut [usize; 40],
+    t: &mut [usize; TALLY],
     m: &[u8],
     s: &[usize; MOST_VARIABLES],
     n: usize,
@@ -100,7 +103,7 @@ fn step_case(
 }
 
 // The same of n zeros.
-pub fn zero_step(t: &mut [usize; 40], m: &[u8], n: usize, room: usize, c: usize, b: usize) {
+pub fn zero_step(t: &mut [usize; TALLY], m: &[u8], n: usize, room: usize, c: usize, b: usize) {
     step_case(t, m, &[ZERO; MOST_VARIABLES], n, room, c, b);
 }
 
@@ -113,7 +116,7 @@ fn box_state(j: usize) -> [usize; MOST_VARIABLES] {
 }
 
 // From every state of the box, by commands and branches to one past the last.
-pub fn box_steps(t: &mut [usize; 40], m: &[u8]) {
+pub fn box_steps(t: &mut [usize; TALLY], m: &[u8]) {
     let mut j = 0;
     while j < 216 {
         step_case(t, m, &box_state(j), 2, MOST_VARIABLES, j / 24 % 3, j / 72);
@@ -121,7 +124,7 @@ pub fn box_steps(t: &mut [usize; 40], m: &[u8]) {
     }
 }
 
-fn bound_case(t: &mut [usize; 40], h: usize, r: Trial) {
+fn bound_case(t: &mut [usize; TALLY], h: usize, r: Trial) {
     match r {
         Trial::TooBig => count(t, TOO_BIG),
         Trial::Holds => count(t, BOUNDS),
@@ -130,7 +133,7 @@ fn bound_case(t: &mut [usize; 40], h: usize, r: Trial) {
 }
 
 // Round h of an accepted graph: each figure at least the best chance, and at most h units more.
-fn figures_case(t: &mut [usize; 40], m: &[u8], g: &[u8], h: usize) {
+fn figures_case(t: &mut [usize; TALLY], m: &[u8], g: &[u8], h: usize) {
     let mut first = [0u32; 8];
     let mut second = [0u32; 8];
     let o = laguipy::figure_refusal(m, g, h, &first, &second);
@@ -141,13 +144,13 @@ fn figures_case(t: &mut [usize; 40], m: &[u8], g: &[u8], h: usize) {
     }
 }
 
-fn both_bounds(t: &mut [usize; 40], m: &[u8], g: &[u8], h: usize) {
+fn both_bounds(t: &mut [usize; TALLY], m: &[u8], g: &[u8], h: usize) {
     figures_case(t, m, g, h);
     bound_case(t, h, solver::try_root(m, g, h));
 }
 
 // Bounds on an accepted graph, within 0 to 4 steps.
-pub fn bounds(t: &mut [usize; 40], m: &[u8], g: &[u8]) {
+pub fn bounds(t: &mut [usize; TALLY], m: &[u8], g: &[u8]) {
     let mut h = 0;
     while h < 5 {
         both_bounds(t, m, g, h);
@@ -172,14 +175,14 @@ fn untouched(s: &[u32]) -> bool {
 }
 
 // A figure call leaves both rows as they are where it is refused, and only there.
-fn kept(t: &mut [usize; 40], number: usize, first: &[u32], second: &[u32]) {
+fn kept(t: &mut [usize; TALLY], number: usize, first: &[u32], second: &[u32]) {
     let same = untouched(first) & untouched(second);
     hold(t, same == (number != 0), number, 0);
 }
 
 // By the call that writes nothing, and by the one that writes.
 fn on_rows(
-    t: &mut [usize; 40],
+    t: &mut [usize; TALLY],
     m: &[u8],
     g: &[u8],
     h: usize,
@@ -208,7 +211,7 @@ fn same_units(a: &[u32; MOST_NODES], b: &[u32; MOST_NODES]) -> bool {
 
 // The call that hands its figures back, on rows of n and k units. What it leaves in both rows no contract can state: it
 // is what `figure_rows` leaves in rows that held the same.
-pub fn rows_case(t: &mut [usize; 40], m: &[u8], g: &[u8], h: usize, n: usize, k: usize) {
+pub fn rows_case(t: &mut [usize; TALLY], m: &[u8], g: &[u8], h: usize, n: usize, k: usize) {
     let mut first = [9u32; MOST_NODES];
     let mut second = [9u32; MOST_NODES];
     let mut handed_first = [9u32; MOST_NODES];
@@ -226,7 +229,7 @@ pub fn rows_case(t: &mut [usize; 40], m: &[u8], g: &[u8], h: usize, n: usize, k:
 }
 
 // The figure call at h and row lengths a, due to answer d.
-pub fn figure_case(t: &mut [usize; 40], m: &[u8], g: &[u8], a: &[usize; 32], d: &[usize; 32]) {
+pub fn figure_case(t: &mut [usize; TALLY], m: &[u8], g: &[u8], a: &[usize; 32], d: &[usize; 32]) {
     let mut first = [9u32; MOST_NODES];
     let mut second = [9u32; MOST_NODES];
     on_rows(
