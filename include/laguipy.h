@@ -9,18 +9,18 @@
  * You, on every call:
  *
  * - pass a slice as a pointer and a count of elements, which may be 0. No pointer is NULL, not even that of an empty
- *   slice, and each is aligned for its elements: folders need no alignment, rows that of uint32_t or int16_t, numbers
- *   (*place, values, part) that of size_t.
- * - keep whatever is written to (rows, *place, values, part) apart from all else that is passed. What is only read may
- *   overlap: the same bytes may be passed as model and graph.
+ *   slice, and each is aligned for its elements: folders need no alignment, rows that of uint32_t, uint16_t or
+ *   int16_t, numbers (*place, *listed, values, part) that of size_t.
+ * - keep whatever is written to (rows, *place, *listed, values, part) apart from all else that is passed. What is only
+ *   read may overlap: the same bytes may be passed as model and graph.
  * - see to it that, during the call, nobody else writes to what is passed or reads what is written to.
  * - have LAGUIPY_STACK_BYTES of stack left.
  *
  * It, on every call, whatever the bytes and the lengths are:
  *
- * - returns 0 for acceptance, else the number of the refusal, 1 to 33. Only laguipy_record_part returns nothing.
- * - writes its answers, *place, values and part, refused or not. *place is the place that docs/REFUSALS.md gives for
- *   the refusal, 0 if accepted. Rows (first, second, result) are no answers: refused, they stay as they were.
+ * - returns 0 for acceptance, else the number of the refusal, 1 to 34. Only laguipy_record_part returns nothing.
+ * - writes *place, *listed, values and part, refused or not. *place is the place that docs/REFUSALS.md gives for the
+ *   refusal, 0 if accepted. Rows (first, second, slots, answers, listing, result) stay as they were when it refuses.
  * - ends, allocates nothing, frees nothing, keeps no pointer, reads and writes no file, and has no state: calls on
  *   different rows may run in any number of threads at once.
  *
@@ -46,6 +46,10 @@ extern "C" {
 #define LAGUIPY_MOST_NODES 4096
 #define LAGUIPY_MOST_VARIABLES 16
 #define LAGUIPY_MOST_STEPS 10000
+
+/* The slots of an index, and what stands for no node in a slot or in an answer. */
+#define LAGUIPY_SLOTS 8192
+#define LAGUIPY_NO_NODE 65535
 
 /* The most bytes of a folder. */
 #define LAGUIPY_MODEL_BYTES 40000
@@ -105,6 +109,25 @@ size_t laguipy_figure_rows(const uint8_t *model, size_t model_len, const uint8_t
 size_t laguipy_figure(const uint8_t *model, size_t model_len, const uint8_t *graph, size_t graph_len, size_t h,
                       uint32_t *first, size_t first_len, uint32_t *second, size_t second_len, size_t *place,
                       size_t part[2]);
+
+/*
+ * The index of the nodes by their concrete states. Three rows are filled:
+ *
+ * - slots, all LAGUIPY_SLOTS of them: the nodes upward, each only if its concrete state is new, in the first slot of
+ *   that state or the next free one, round the end; LAGUIPY_NO_NODE in the rest. The first slot is the remainder by
+ *   LAGUIPY_SLOTS of the 32-bit FNV-1a hash of the state's bytes, two per variable as a graph folder has them.
+ * - answers, one for each state of the batch, whose values stand one after the other, one per variable: the
+ *   lowest-numbered node with that concrete state, or LAGUIPY_NO_NODE. A batch may be empty, and hold any values.
+ * - listing, which gets *listed nodes, ascending: every uncovered node, waiting and target too, with the concrete state
+ *   of a lower uncovered one.
+ *
+ * Later elements of answers and listing stay. Refused, by the graph check or with 34, *listed is 0 and all rows stay:
+ * 34 where slots_len is not LAGUIPY_SLOTS (place 0), the batch is not whole states (1), answers has fewer elements than
+ * the batch has states (2), or listing fewer than the graph has nodes (3).
+ */
+size_t laguipy_index(const uint8_t *model, size_t model_len, const uint8_t *graph, size_t graph_len, uint16_t *slots,
+                     size_t slots_len, const int16_t *batch, size_t batch_len, uint16_t *answers, size_t answers_len,
+                     uint16_t *listing, size_t listing_len, size_t *place, size_t *listed);
 
 /*
  * The step of a state by a branch of a command, also from a target. The new state, one value per variable, stands first
