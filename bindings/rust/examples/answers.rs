@@ -106,7 +106,7 @@ fn answers(input: &Input, rows: [Vec<u32>; 2], result: Vec<i16>) -> String {
 
 /// An input with its answers. Names are plain text, which JSON quotes as Rust does.
 fn write_line(out: &mut impl Write, seed: Option<u64>, input: &Input) -> io::Result<()> {
-    let Input { name, model, graph, h, rows, state, command, branch, result, body, record } = input;
+    let Input { name, model, graph, h, rows, state, command, branch, result, body, record, .. } = input;
     let seed = seed.map_or("null".to_owned(), |seed| seed.to_string());
     let before = [row_before(rows[0], 1), row_before(rows[1], 2)];
     let [first, second] = &before;

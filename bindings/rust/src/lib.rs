@@ -81,8 +81,14 @@ pub const MODEL_BYTES: usize = 40_000;
 /// The most bytes that a graph folder may have.
 pub const GRAPH_BYTES: usize = 1_048_576;
 
+/// The slots of an index: exactly as long is the row for them.
+pub const SLOTS: usize = 8_192;
+
+/// What stands for no node, in an empty slot or as an answer.
+pub const NO_NODE: u16 = 65_535;
+
 /// The highest number of a refusal.
-pub const LAST_REFUSAL: u32 = 33;
+pub const LAST_REFUSAL: u32 = 34;
 
 /// The first broken rule: its number, and the place returned with it (an entry, a
 /// variable, an expression, a node and so on). `docs/REFUSALS.md` in Laguipy's
@@ -167,6 +173,22 @@ mod c {
             second_len: usize,
             place: *mut usize,
             part: *mut [usize; 2],
+        ) -> usize;
+        pub fn laguipy_index(
+            model: *const u8,
+            model_len: usize,
+            graph: *const u8,
+            graph_len: usize,
+            slots: *mut u16,
+            slots_len: usize,
+            batch: *const i16,
+            batch_len: usize,
+            answers: *mut u16,
+            answers_len: usize,
+            listing: *mut u16,
+            listing_len: usize,
+            place: *mut usize,
+            listed: *mut usize,
         ) -> usize;
         pub fn laguipy_step(
             model: *const u8,
@@ -340,6 +362,72 @@ pub fn figure<'a>(
     let [row, length] = part;
     let row = if row == 0 { first } else { second };
     outcome(number, place).map(|()| row.get_mut(..length).unwrap_or(&mut []))
+}
+
+/// The index of the nodes by their concrete states, and which uncovered nodes share
+/// one; how many these are.
+///
+/// - `slots`, all of them: the nodes upward, each only if its concrete state is new,
+///   in the first slot of that state or the next free one, round the end; [`NO_NODE`]
+///   in the rest. The first slot is the remainder by [`SLOTS`] of the 32-bit FNV-1a
+///   hash of the state's bytes, two per variable as a graph folder has them.
+/// - `answers`, one for each state of the batch, whose values stand one after the
+///   other, one per variable: the lowest-numbered node with that concrete state, or
+///   [`NO_NODE`]. A batch may be empty, and hold any values.
+/// - `listing`, as many as are returned, ascending: every uncovered node, waiting and
+///   target too, with the concrete state of a lower uncovered one.
+///
+/// Later elements of `answers` and `listing` stay, and all rows when refused.
+///
+/// # Errors
+///
+/// The graph check's refusal; then 34 where `slots` is not [`SLOTS`] long (place 0),
+/// the batch is not whole states (1), `answers` is shorter than the batch has states
+/// (2) or `listing` than the graph has nodes (3).
+///
+/// # Example
+///
+/// ```
+/// use laguipy::{index, NO_NODE, SLOTS};
+///
+/// let model = include_bytes!("../examples/pedal/model.fold");
+/// let graph = include_bytes!("../examples/pedal/graph.fold");
+/// let (mut slots, mut answers, mut listing) = ([0; SLOTS], [0; 3], [0; 6]);
+/// let batch = [3, 0, 0, 1, 3, 1];
+/// let listed = index(model, graph, &mut slots, &batch, &mut answers, &mut listing);
+/// // Nodes 1 and 4 have the first state, but 4 is covered.
+/// assert_eq!((listed, answers), (Ok(0), [1, 3, NO_NODE]));
+/// assert_eq!(slots.iter().filter(|&&node| node != NO_NODE).count(), 5);
+/// ```
+pub fn index(
+    model: &[u8],
+    graph: &[u8],
+    slots: &mut [u16],
+    batch: &[i16],
+    answers: &mut [u16],
+    listing: &mut [u16],
+) -> Result<usize, Refusal> {
+    let (mut place, mut listed) = (0, 0);
+    // SAFETY: as in `figure_rows`; the two locals are apart.
+    let number = unsafe {
+        c::laguipy_index(
+            model.as_ptr(),
+            model.len(),
+            graph.as_ptr(),
+            graph.len(),
+            slots.as_mut_ptr(),
+            slots.len(),
+            batch.as_ptr(),
+            batch.len(),
+            answers.as_mut_ptr(),
+            answers.len(),
+            listing.as_mut_ptr(),
+            listing.len(),
+            &mut place,
+            &mut listed,
+        )
+    };
+    outcome(number, place).map(|()| listed)
 }
 
 /// The step of a state by a command and a branch, also from a target. The new

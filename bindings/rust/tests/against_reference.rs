@@ -7,7 +7,7 @@ mod reference;
 use generate::large::Large;
 use generate::limits::limits;
 use generate::*;
-use laguipy::{Refusal, LAST_REFUSAL, MOST_NODES, MOST_STEPS, MOST_VARIABLES};
+use laguipy::{Refusal, LAST_REFUSAL, MOST_NODES, MOST_STEPS, MOST_VARIABLES, SLOTS};
 use std::ops::Range;
 
 /// How many inputs the test over seeds takes: at least one, so that it never passes
@@ -72,15 +72,31 @@ fn compare_step(input: &Input) -> u32 {
     number(&answer)
 }
 
+/// The count of nodes listed, and the three rows.
+fn compare_index(input: &Input) -> u32 {
+    let Input { name, model, graph, batch, .. } = input;
+    let mut rows = index_before(input.index_rows);
+    let mut expected = rows.clone();
+    let [slots, answers, listing] = &mut rows;
+    let answer = laguipy::index(model, graph, slots, batch, answers, listing);
+    let [slots, answers, listing] = &mut expected;
+    assert_eq!(answer, reference::index(model, graph, slots, batch, answers, listing), "{name}");
+    assert_eq!(rows, expected, "{name}");
+    number(&answer)
+}
+
 fn compare_part(model: &[u8], body: usize, record: usize) {
     let part = laguipy::record_part(model, body, record);
     let plain = reference::record_part(model, body, record);
     assert_eq!((part.as_ptr(), part.len()), (plain.as_ptr(), plain.len()), "{body} {record}");
 }
 
+/// How many calls have numbers.
+const CALLS: usize = 5;
+
 /// Compares every call on an input, and gives the numbers of the answers: model
-/// check, graph check, figure, step.
-fn compare(input: &Input) -> [u32; 4] {
+/// check, graph check, figure, step, index.
+fn compare(input: &Input) -> [u32; CALLS] {
     let Input { name, model, graph, body, record, .. } = input;
     let of_model = laguipy::model_check(model);
     assert_eq!(of_model, reference::model_check(model), "{name}");
@@ -89,7 +105,8 @@ fn compare(input: &Input) -> [u32; 4] {
     for (body, record) in [(*body, *record), (*body, record + 1), (body + 1, 0), (usize::MAX, usize::MAX)] {
         compare_part(model, body, record);
     }
-    [number(&of_model), number(&of_graph), compare_figures(input), compare_step(input)]
+    let [of_model, of_graph] = [number(&of_model), number(&of_graph)];
+    [of_model, of_graph, compare_figures(input), compare_step(input), compare_index(input)]
 }
 
 /// Says which seed it was, where a comparison fails.
@@ -107,10 +124,10 @@ impl Drop for Seed {
 const NUMBERS: usize = LAST_REFUSAL as usize + 1;
 
 /// How often each number was answered, by call.
-type Tally = [[usize; 4]; NUMBERS];
+type Tally = [[usize; CALLS]; NUMBERS];
 
 fn compare_seeds(seeds: Range<u64>) -> Tally {
-    let mut tally = [[0; 4]; NUMBERS];
+    let mut tally = [[0; CALLS]; NUMBERS];
     for seed in seeds {
         let _said = Seed(seed);
         let input = input(seed);
@@ -125,7 +142,7 @@ fn compare_seeds(seeds: Range<u64>) -> Tally {
 fn random_inputs() {
     let count = cases();
     let threads = std::thread::available_parallelism().map_or(1, usize::from) as u64;
-    let mut tally = [[0; 4]; NUMBERS];
+    let mut tally = [[0; CALLS]; NUMBERS];
     std::thread::scope(|scope| {
         let part = |k: u64| k * count / threads..(k + 1) * count / threads;
         let running: Vec<_> = (0..threads).map(|k| scope.spawn(move || compare_seeds(part(k)))).collect();
@@ -137,9 +154,9 @@ fn random_inputs() {
         }
     });
     println!("{count} inputs");
-    println!("number   model   graph  figure    step  (0 is acceptance)");
-    for (number, [model, graph, figure, step]) in tally.iter().enumerate() {
-        println!("{number:6} {model:7} {graph:7} {figure:7} {step:7}");
+    println!("number   model   graph  figure    step   index  (0 is acceptance)");
+    for (number, [model, graph, figure, step, index]) in tally.iter().enumerate() {
+        println!("{number:6} {model:7} {graph:7} {figure:7} {step:7} {index:7}");
     }
     if count >= 5_000 {
         for (number, counts) in tally.iter().enumerate() {
@@ -155,6 +172,7 @@ fn limits_of_the_crate() {
         [data::MODEL_BYTES, data::GRAPH_BYTES, data::MOST_VARIABLES, data::MOST_NODES, data::MOST_STEPS]
     );
     assert_eq!([laguipy::CERTAIN, LAST_REFUSAL], [data::CERTAIN, data::LAST_REFUSAL]);
+    assert_eq!((SLOTS, laguipy::NO_NODE), (data::SLOTS, data::NO_NODE));
 }
 
 #[test]
@@ -188,6 +206,8 @@ fn any_byte_of_the_pedal_may_change() {
                 result: 3,
                 body: at % 5,
                 record: at % 3,
+                batch: vec![0, 1, 3, 0, 3, 1],
+                index_rows: [(SLOTS, 0), (4, 0), (7, 0)],
             });
         }
     }
@@ -211,8 +231,24 @@ fn compare_large(large: Large, h: usize) {
     let Large { name, model, graph, state, command, branch } = large;
     let (rows, result) = ([MOST_NODES, MOST_NODES + 1], MOST_VARIABLES + 1);
     let (body, record) = (4, data::MOST_BRANCH_RECORDS - 1);
-    let input = Input { name, model, graph, h, rows, state, command, branch, result, body, record };
-    assert_eq!(compare(&input), [0; 4], "{name}");
+    let batch = state.clone();
+    let index_rows = [(SLOTS, 0), (1, 0), (MOST_NODES, 0)];
+    let input = Input {
+        name,
+        model,
+        graph,
+        h,
+        rows,
+        state,
+        command,
+        branch,
+        result,
+        body,
+        record,
+        batch,
+        index_rows,
+    };
+    assert_eq!(compare(&input), [0; CALLS], "{name}");
 }
 
 #[test]

@@ -11,8 +11,8 @@ use generate::limits::limits;
 use generate::random::Random;
 use generate::*;
 use laguipy::{Refusal, Summary};
-use reference::{figure, graph_check, model_check, record_part, step, Part};
-use std::collections::HashMap;
+use reference::{figure, fnv, graph_check, index, index_by_slots, model_check, record_part, step, Part};
+use std::collections::{HashMap, HashSet};
 
 /// How many inputs a test over seeds takes.
 fn cases() -> u64 {
@@ -42,6 +42,30 @@ fn figure_rows(model: &[u8], graph: &[u8], h: usize, lengths: [usize; 2]) -> Row
 fn figures(model: &[u8], graph: &[u8], nodes: usize, h: usize) -> Result<Vec<u32>, Refusal> {
     let rows = figure_rows(model, graph, h, [nodes, nodes]);
     rows.answer.map(|part| rows.after[usize::from(part.second)][..part.nodes].to_vec())
+}
+
+/// The rows of an index call: before it slots, answers and listing, after it the same.
+struct Indexed {
+    before: [Vec<u16>; 3],
+    after: [Vec<u16>; 3],
+    answer: Result<usize, Refusal>,
+}
+
+/// The index call, which leaves the same by look-ups in its slots.
+fn indexed(model: &[u8], graph: &[u8], batch: &[i16], rows: [(usize, u16); 3]) -> Indexed {
+    let before = index_before(rows);
+    let [mut after, mut by_slots] = [before.clone(), before.clone()];
+    let [slots, answers, listing] = &mut after;
+    let answer = index(model, graph, slots, batch, answers, listing);
+    let [slots, answers, listing] = &mut by_slots;
+    assert_eq!(index_by_slots(model, graph, slots, batch, answers, listing), answer);
+    assert_eq!(by_slots, after);
+    Indexed { before, after, answer }
+}
+
+/// The slots that are not empty, with their nodes.
+fn entered(slots: &[u16]) -> Vec<(usize, u16)> {
+    slots.iter().copied().enumerate().filter(|&(_, node)| node != NO_NODE).collect()
 }
 
 // ------------------------------------------------------------ pedal example
@@ -668,15 +692,90 @@ fn view_of_the_pedal() {
 }
 
 #[test]
+fn fnv_as_published() {
+    for (text, hash) in [("", 0x811c9dc5), ("a", 0xe40c292c), ("foobar", 0xbf9cf968)] {
+        assert_eq!(fnv(text.bytes()), hash, "{text}");
+    }
+}
+
+/// The index of the pedal example after a change.
+fn pedal_indexed(batch: &[i16], change: impl Fn(&mut GraphData)) -> Indexed {
+    let (model, mut graph) = pedal();
+    change(&mut graph);
+    indexed(&model.bytes(), &graph.bytes(), batch, [(SLOTS, 3), (batch.len() / 2 + 1, 7), (7, 7)])
+}
+
+#[test]
+fn index_of_the_pedal() {
+    let slots = [(4_919, 5), (5_158, 1), (5_397, 0), (5_636, 2), (6_828, 3)];
+    let rows = pedal_indexed(&[3, 0, 0, 1, 3, 1, 4, 0, 0, 0], |_| ());
+    assert_eq!(rows.answer, Ok(0));
+    assert_eq!(entered(&rows.after[0]), slots);
+    assert_eq!(rows.after[1], [1, 3, NO_NODE, NO_NODE, 0, 7]);
+    assert_eq!(rows.after[2], [7; 7]);
+
+    // Node 4 has the state of node 1: listed once it is not covered.
+    for kind in [EXPANDED, WAITING] {
+        let rows = pedal_indexed(&[3, 0], |graph| {
+            graph.nodes[4].kind = kind;
+            graph.nodes[4].cover = 0;
+            graph.nodes.iter_mut().for_each(|node| node.value = CERTAIN);
+        });
+        assert_eq!(rows.answer, Ok(1));
+        assert_eq!(entered(&rows.after[0]), slots);
+        assert_eq!((&rows.after[1][..], &rows.after[2][..]), (&[1, 7][..], &[4, 7, 7, 7, 7, 7, 7][..]));
+    }
+}
+
+#[test]
+fn covered_nodes_are_in_the_index_and_not_in_the_listing() {
+    let kinds = [WAITING, COVERED, COVERED, TARGET, WAITING, COVERED, WAITING];
+    let states = [[5], [-2], [-2], [-2], [-2], [5], [5]];
+    let nodes: Vec<_> = kinds.into_iter().zip(states.map(Vec::from)).collect();
+    let pair = states::of_states(&nodes);
+    let batch = [-2, 5, 0];
+    let rows = indexed(&pair.model.bytes(), &pair.graph.bytes(), &batch, [(SLOTS, 9), (3, 9), (7, 9)]);
+    // Node 1 is the lowest of its state, node 3 the lowest uncovered one.
+    assert_eq!(rows.after[1], [1, 0, NO_NODE]);
+    assert_eq!((rows.answer, &rows.after[2][..]), (Ok(2), &[4, 6, 9, 9, 9, 9, 9][..]));
+}
+
+#[test]
+fn slots_are_entered_round_the_end() {
+    let states::Crowd { pair, .. } = states::one_slot();
+    let rows = [(SLOTS, 0), (0, 0), (MOST_NODES, 0)];
+    let slots = &indexed(&pair.model.bytes(), &pair.graph.bytes(), &[], rows).after[0];
+    // The first in the last slot, the others from the first slot on.
+    let expected: Vec<_> = (1..MOST_NODES).map(|node| (node - 1, node as u16)).collect();
+    assert_eq!(entered(slots), [&expected[..], &[(SLOTS - 1, 0)]].concat());
+}
+
+#[test]
+fn crowds_are_hard_to_tell_apart() {
+    let hash = |state: &Vec<i16>| fnv(state.iter().flat_map(|value| value.to_le_bytes()));
+    for (states::Crowd { name, pair, absent }, kept) in
+        [(states::one_slot(), SLOTS as u32 - 1), (states::one_hash(), u32::MAX)]
+    {
+        let there = pair.graph.nodes.into_iter().map(|node| node.concrete);
+        let all: Vec<Vec<i16>> = there.chain(absent).collect();
+        assert_eq!(all.iter().collect::<HashSet<_>>().len(), 2 * MOST_NODES, "{name}");
+        assert!(all.iter().all(|state| hash(state) & kept == hash(&all[0]) & kept), "{name}");
+        assert_eq!(all.iter().any(|state| hash(state) != hash(&all[0])), kept != u32::MAX, "{name}");
+    }
+}
+
+#[test]
 fn limits_are_kept() {
     for limit in limits() {
-        let Input { name, model, graph, h, rows, state, command, branch, result, .. } = limit.input;
+        let Input { name, model, graph, h, rows, state, command, branch, result, batch, index_rows, .. } =
+            limit.input;
         let mut row = result_before(result);
         let answers = [
             model_check(&model).err(),
             graph_check(&model, &graph).err(),
             figure_rows(&model, &graph, h, rows).answer.err(),
             step(&model, &state, command, branch, &mut row).err(),
+            indexed(&model, &graph, &batch, index_rows).answer.err(),
         ];
         let expected = limit.answers.map(|answer| answer.map(|(number, place)| refused(number, place)));
         assert_eq!(answers, expected, "{name}");
@@ -739,8 +838,41 @@ fn explored_graphs_are_accepted() {
     assert!(finished > 0 && covered > 0 && untracked > 0);
 }
 
+/// How many variables an accepted model has: a branch record has a weight, and an entry
+/// for each.
+fn variables_of(model: &[u8]) -> usize {
+    record_part(model, 4, 0).len() / 2 - 1
+}
+
+/// The first slot of a node's concrete state, by its bytes.
+fn first_slot(Input { model, graph, .. }: &Input, node: u16) -> usize {
+    let variables = variables_of(model);
+    let record = GRAPH_TABLE + (12 + 4 * variables) * usize::from(node);
+    fnv(graph[record + 12..][..2 * variables].iter().copied()) as usize % SLOTS
+}
+
+/// Runs the index call on an input, and asks of it what holds of any.
+fn run_index(input: &Input, of_graph: Option<Refusal>) -> Indexed {
+    let rows = indexed(&input.model, &input.graph, &input.batch, input.index_rows);
+    match rows.answer {
+        Ok(listed) => {
+            let ([_, answers, listing], states) =
+                (&rows.after, input.batch.len() / variables_of(&input.model));
+            assert_eq!(answers[states..], rows.before[1][states..]);
+            assert_eq!(listing[listed..], rows.before[2][listed..]);
+            assert!(listing[..listed].is_sorted_by(|a, b| a < b));
+            assert_eq!(of_graph, None);
+        }
+        Err(refusal) => {
+            assert_eq!(rows.before, rows.after);
+            assert!(of_graph == Some(refusal) || of_graph.is_none() && refusal.number == 34);
+        }
+    }
+    rows
+}
+
 /// Runs every call on an input, and asks of each what holds of any.
-fn run_all(input: &Input) -> [Option<Refusal>; 4] {
+fn run_all(input: &Input) -> [Option<Refusal>; 5] {
     let Input { model, graph, h, rows, state, command, branch, result, body, record, .. } = input;
     let of_model = model_check(model).err();
     let of_graph = graph_check(model, graph);
@@ -785,12 +917,13 @@ fn run_all(input: &Input) -> [Option<Refusal>; 4] {
     if of_model.is_some_and(|refusal| refusal.number <= 3) {
         assert!(part.is_empty());
     }
-    [of_model, of_graph.err(), rows.answer.err(), of_step]
+    let of_index = run_index(input, of_graph.err()).answer.err();
+    [of_model, of_graph.err(), rows.answer.err(), of_step, of_index]
 }
 
 #[test]
 fn every_number_is_reached() {
-    let mut numbers = [[0usize; 4]; LAST_REFUSAL as usize + 1];
+    let mut numbers = [[0usize; 5]; LAST_REFUSAL as usize + 1];
     let mut kinds: Vec<(&str, usize, usize)> = Vec::new();
     for seed in 0..cases() {
         let input = input(seed);
@@ -809,14 +942,44 @@ fn every_number_is_reached() {
     for (name, count, accepted) in &kinds {
         println!("{name}: {count}, {accepted} of the graphs accepted");
     }
-    println!("number   model   graph  figure    step  (0 is acceptance)");
-    for (number, [model, graph, figure, step]) in numbers.iter().enumerate() {
-        println!("{number:6} {model:7} {graph:7} {figure:7} {step:7}");
+    println!("number   model   graph  figure    step   index  (0 is acceptance)");
+    for (number, [model, graph, figure, step, index]) in numbers.iter().enumerate() {
+        println!("{number:6} {model:7} {graph:7} {figure:7} {step:7} {index:7}");
     }
     if cases() >= 5_000 {
         for (number, counts) in numbers.iter().enumerate() {
             assert!(counts.iter().any(|&count| count > 0), "no input is refused with {number}");
         }
+    }
+}
+
+/// What the index calls over seeds meet: graphs that list nodes, states that are
+/// there and that are not, nodes that enter round the end, and each place of 34.
+#[test]
+fn indexes_meet_all_there_is() {
+    let (mut listing, mut there, mut missing, mut moved, mut places) = (0, 0, 0, 0, [0; 4]);
+    for seed in 0..cases() {
+        let input = input(seed);
+        let rows = run_index(&input, graph_check(&input.model, &input.graph).err());
+        match rows.answer {
+            Ok(listed) => {
+                let states = input.batch.len() / variables_of(&input.model);
+                let absent = rows.after[1][..states].iter().filter(|&&node| node == NO_NODE).count();
+                listing += usize::from(listed > 0);
+                there += states - absent;
+                missing += absent;
+                let round = |&&(slot, node): &&(usize, u16)| slot < first_slot(&input, node);
+                moved += entered(&rows.after[0]).iter().filter(round).count();
+            }
+            Err(refusal) if refusal.number == 34 => places[refusal.place] += 1,
+            Err(_) => (),
+        }
+    }
+    println!(
+        "{listing} with nodes listed, {there} states there, {missing} not, {moved} round the end, {places:?}"
+    );
+    if cases() >= 5_000 {
+        assert!([listing, there, missing, moved].into_iter().chain(places).all(|count| count > 0));
     }
 }
 
@@ -843,6 +1006,8 @@ fn any_byte_of_the_pedal_may_change() {
                     result: 3,
                     body: at % 5,
                     record: at % 3,
+                    batch: vec![0, 1, 3, 0, 3, 1],
+                    index_rows: [(SLOTS, 0), (4, 0), (7, 0)],
                 });
             }
         }

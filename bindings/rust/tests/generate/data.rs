@@ -56,12 +56,15 @@ pub const MOST_BRANCHES: usize = 16;
 pub const MOST_BRANCH_RECORDS: usize = 1_024;
 pub const MOST_NODES: usize = 4_096;
 pub const MOST_STEPS: usize = 10_000;
+pub const SLOTS: usize = 8_192;
+/// What stands for no node, in an empty slot or as an answer.
+pub const NO_NODE: u16 = 65_535;
 pub const MOST_DEPTH: u32 = 12;
 /// A variable's range lies within this and its negative.
 pub const BOUND: i16 = 30_000;
 /// A number's range lies within this and its negative.
 pub const NUMBER_BOUND: i64 = 1_000_000;
-pub const LAST_REFUSAL: u32 = 33;
+pub const LAST_REFUSAL: u32 = 34;
 
 /// The lengths of the tables of contents: no folder is shorter.
 pub const MODEL_TABLE: usize = 8 * 5;

@@ -1,33 +1,39 @@
 //! Inputs at the limits and just past them, with what each call answers.
 
 use super::data::*;
+use super::states::{self, one_hash, one_slot, Crowd};
 use super::{pedal, Input};
 
-/// What the four calls answer, in this order: model check, graph check, figure,
-/// step. Nothing is acceptance; a refusal is number and place.
-pub type Answers = [Option<(u32, usize)>; 4];
+/// What the five calls answer, in this order: model check, graph check, figure,
+/// step, index. Nothing is acceptance; a refusal is number and place.
+pub type Answers = [Option<(u32, usize)>; 5];
 
 pub struct Limit {
     pub input: Input,
     pub answers: Answers,
 }
 
-const ACCEPTED: Answers = [None; 4];
+const ACCEPTED: Answers = [None; 5];
 
 fn model_refused(number: u32, place: usize) -> Answers {
-    [Some((number, place)); 4]
+    [Some((number, place)); 5]
 }
 
 fn graph_refused(number: u32, place: usize) -> Answers {
-    [None, Some((number, place)), Some((number, place)), None]
+    let graph = Some((number, place));
+    [None, graph, graph, None, graph]
 }
 
 fn figure_refused(number: u32, place: usize) -> Answers {
-    [None, None, Some((number, place)), None]
+    [None, None, Some((number, place)), None, None]
 }
 
 fn step_refused(number: u32, place: usize) -> Answers {
-    [None, None, None, Some((number, place))]
+    [None, None, None, Some((number, place)), None]
+}
+
+fn index_refused(place: usize) -> Answers {
+    [None, None, None, None, Some((34, place))]
 }
 
 /// A model of so many variables, entries (3 or more), commands, and branches of
@@ -74,6 +80,8 @@ fn input(name: &'static str, model: Vec<u8>, graph: Vec<u8>, nodes: usize, varia
         result: variables,
         body: 0,
         record: 0,
+        batch: vec![0; variables],
+        index_rows: [(SLOTS, 0), (1, 0), (nodes, 0)],
     }
 }
 
@@ -296,6 +304,73 @@ pub fn limits() -> Vec<Limit> {
         limit.input.command = command;
         limit.input.branch = branch;
         limit.input.result = result;
+        limits.push(limit);
+    }
+
+    limits.extend(index_limits());
+    limits.extend(crowds());
+    limits
+}
+
+/// The rows of an index of the pedal example, which has 6 nodes and 2 variables.
+fn index_limits() -> Vec<Limit> {
+    let (model, graph) = pedal();
+    let (folder, right) = (model.bytes(), graph.bytes());
+    let limit = |(name, slots, batch, answers, listing, expected): (_, _, usize, _, _, _)| {
+        let mut limit = Limit { input: input(name, folder.clone(), right.clone(), 6, 2), answers: expected };
+        limit.input.batch = [3, 0, 0, 1, 3, 1, 9][..batch].to_vec();
+        limit.input.index_rows = [(slots, NO_NODE), (answers, 6), (listing, 6)];
+        limit
+    };
+    let mut limits: Vec<Limit> = [
+        ("index", SLOTS, 6, 3, 6, ACCEPTED),
+        ("index into longer rows", SLOTS, 6, 4, 7, ACCEPTED),
+        ("batch of no states", SLOTS, 0, 0, 6, ACCEPTED),
+        ("no slots", 0, 6, 3, 6, index_refused(0)),
+        ("8,191 slots", SLOTS - 1, 6, 3, 6, index_refused(0)),
+        ("8,193 slots", SLOTS + 1, 6, 3, 6, index_refused(0)),
+        ("batch of half a state", SLOTS, 1, 3, 6, index_refused(1)),
+        ("batch one value short", SLOTS, 5, 3, 6, index_refused(1)),
+        ("batch one value long", SLOTS, 7, 4, 6, index_refused(1)),
+        ("answers short by one", SLOTS, 6, 2, 6, index_refused(2)),
+        ("no answers", SLOTS, 2, 0, 6, index_refused(2)),
+        ("listing short by one", SLOTS, 6, 3, 5, index_refused(3)),
+        ("no listing", SLOTS, 0, 0, 0, index_refused(3)),
+        ("slots, batch, answers and listing", SLOTS - 1, 7, 2, 5, index_refused(0)),
+        ("batch, answers and listing", SLOTS, 7, 2, 5, index_refused(1)),
+        ("answers and listing", SLOTS, 6, 2, 5, index_refused(2)),
+    ]
+    .map(limit)
+    .into();
+
+    // The graph's own refusals come first, the last of them too.
+    let mut low = graph.clone();
+    low.nodes[5].value = CERTAIN - 1;
+    let mut over = limit(("value and all rows of an index", 0, 1, 0, 0, graph_refused(25, 5)));
+    over.input.graph = low.bytes();
+    limits.push(over);
+    limits
+}
+
+/// The most nodes: each with a state of its own that is hard to tell from the others,
+/// and all with one state.
+fn crowds() -> Vec<Limit> {
+    let (waiting, last) = (Some((26, 0)), MOST_NODES - 1);
+    let mut limits = Vec::new();
+    for Crowd { name, pair, absent } in [one_slot(), one_hash()] {
+        let mut limit = of_graph(name, &pair.model, &pair.graph, [None, None, waiting, None, None]);
+        let present = [0, 1, last / 2, last].map(|place| &pair.graph.nodes[place].concrete);
+        limit.input.batch = present.into_iter().chain(&absent[..4]).flatten().copied().collect();
+        limit.input.index_rows[1].0 = 8;
+        limits.push(limit);
+    }
+    let twins = states::of_states(&vec![(WAITING, vec![-BOUND]); MOST_NODES]);
+    for (name, listing, index) in [
+        ("4,096 nodes of one state", MOST_NODES, None),
+        ("4,096 nodes, listing short by one", last, Some((34, 3))),
+    ] {
+        let mut limit = of_graph(name, &twins.model, &twins.graph, [None, None, waiting, None, index]);
+        limit.input.index_rows[2].0 = listing;
         limits.push(limit);
     }
     limits

@@ -12,6 +12,7 @@ pub mod limits;
 pub mod models;
 pub mod mutate;
 pub mod random;
+pub mod states;
 
 use data::*;
 use explore::Plan;
@@ -36,6 +37,10 @@ pub struct Input {
     /// For the view.
     pub body: usize,
     pub record: usize,
+    /// For the index: the batch, and the rows for slots, answers and listing, each by
+    /// its length and by what all its elements are before the call.
+    pub batch: Vec<i16>,
+    pub index_rows: [(usize, u16); 3],
 }
 
 /// What a row holds before a call, so that what stays can be seen to.
@@ -45,6 +50,11 @@ pub fn row_before(length: usize, salt: u32) -> Vec<u32> {
 
 pub fn result_before(length: usize) -> Vec<i16> {
     (0..length as i32).map(|place| (place * 7_919 - 12_345) as i16).collect()
+}
+
+/// The rows before an index call.
+pub fn index_before(rows: [(usize, u16); 3]) -> [Vec<u16>; 3] {
+    rows.map(|(length, fill)| vec![fill; length])
 }
 
 /// The pedal example.
@@ -174,6 +184,9 @@ impl Pair {
             random.pick(&enabled)
         };
         let branch = random.below(self.model.branches_of(command).len());
+        let batch = self.batch(random);
+        let states = batch.len() / variables;
+        let fill = random.pick(&[0, 1, 5, MOST_NODES as u16, NO_NODE]);
         let body = random.below(5);
         let records =
             [1, variables, self.model.entries.len(), self.model.commands.len(), self.model.branches.len()];
@@ -194,7 +207,26 @@ impl Pair {
             result: variables + random.below(3),
             body,
             record: random.below(records[body]),
+            batch,
+            index_rows: [(SLOTS, fill), (states + random.below(4), fill), (nodes + random.below(4), fill)],
         }
+    }
+
+    /// A batch of states: those of nodes, with a value changed now and then, and any.
+    fn batch(&self, random: &mut Random) -> Vec<i16> {
+        let mut batch = Vec::new();
+        for _ in 0..random.pick(&[0, 1, 3, 10]) {
+            let mut state = self.graph.nodes[random.below(self.graph.nodes.len())].concrete.clone();
+            let v = random.below(state.len());
+            match random.below(6) {
+                0 => state[v] = state[v].wrapping_add(1),
+                1 => state[v] = random.pick(&[i16::MIN, -BOUND - 1, BOUND + 1, i16::MAX]),
+                2 => state.fill_with(|| random.bits() as i16),
+                _ => (),
+            }
+            batch.extend(state);
+        }
+        batch
     }
 }
 
@@ -202,7 +234,8 @@ impl Pair {
 pub fn input(seed: u64) -> Input {
     let random = &mut Random::new(seed);
     match random.below(20) {
-        0..=6 => Pair::any(random).input(random, "valid"),
+        0..=5 => Pair::any(random).input(random, "valid"),
+        6 => states::shared(random).input(random, "few states"),
         7..=9 => mutate::near_model(random),
         10..=12 => mutate::near_graph(random),
         13..=16 => {

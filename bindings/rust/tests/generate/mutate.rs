@@ -291,7 +291,7 @@ const VIEW: u32 = LAST_REFUSAL + 1;
 /// How many values a field has.
 const FIELD_VALUES: usize = 1 << 16;
 
-/// Breaks row 27 to 33, or asks the view for what is not there.
+/// Breaks row 27 to 34, or asks the view for what is not there.
 fn break_arguments(random: &mut Random, input: &mut Input, number: u32) {
     match number {
         27 => input.h = random.pick(&[MOST_STEPS + 1, MOST_STEPS + 2, FIELD_VALUES, 1 << 32, usize::MAX]),
@@ -318,6 +318,16 @@ fn break_arguments(random: &mut Random, input: &mut Input, number: u32) {
             let over =
                 [MOST_BRANCHES, MOST_BRANCHES + 1, FIELD_VALUES - 1, FIELD_VALUES, 1 << 32, usize::MAX];
             input.branch = random.pick(&over);
+        }
+        34 => {
+            // With one variable every batch is whole.
+            let [slots, answers, listing] = &mut input.index_rows;
+            match random.below(4) {
+                0 => slots.0 = random.pick(&[0, 1, SLOTS - 1, SLOTS + 1, 2 * SLOTS]),
+                1 => input.batch.push(0),
+                2 => answers.0 = answers.0.saturating_sub(1 + random.below(4)),
+                _ => listing.0 = listing.0.saturating_sub(1 + random.below(4)),
+            }
         }
         _ => match random.below(3) {
             0 => input.body = random.pick(&[5, 6, 1 << 32, usize::MAX]),

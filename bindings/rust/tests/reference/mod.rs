@@ -25,6 +25,10 @@ const BOUNDS: RangeInclusive<i16> = -30_000..=30_000;
 const NUMBERS: RangeInclusive<i64> = -1_000_000..=1_000_000;
 const DEPTH: u32 = 12;
 const STEPS: usize = 10_000;
+const SLOTS: usize = 8_192;
+
+/// What stands for no node, in an empty slot or as an answer.
+pub const NO_NODE: u16 = 65_535;
 
 type Checked<T> = Result<T, Refusal>;
 
@@ -697,6 +701,99 @@ impl Graph {
     }
 }
 
+// --------------------------------------------------------------------- index
+
+/// The FNV-1a hash of bytes.
+pub fn fnv(bytes: impl IntoIterator<Item = u8>) -> u32 {
+    bytes.into_iter().fold(2_166_136_261, |hash, byte| (hash ^ u32::from(byte)).wrapping_mul(16_777_619))
+}
+
+fn hash(state: &[i16]) -> u32 {
+    fnv(state.iter().flat_map(|value| value.to_le_bytes()))
+}
+
+/// The slots from the first one of a hash on, round the end.
+fn slots_from(hash: u32) -> impl Iterator<Item = usize> {
+    let first = hash as usize % SLOTS;
+    (first..SLOTS).chain(0..first)
+}
+
+// Node numbers are below 4,096, so that they fit a row's elements and leave a slot free.
+
+impl Graph {
+    /// The lowest node with a concrete state, by looking at one after the other.
+    fn lowest(&self, state: &[i16]) -> Option<usize> {
+        self.nodes.iter().position(|node| node.concrete == state)
+    }
+
+    fn enter_all(&self, slots: &mut [u16]) {
+        slots.fill(NO_NODE);
+        for (place, node) in self.nodes.iter().enumerate() {
+            let new = self.lowest(&node.concrete) == Some(place);
+            let free = slots_from(hash(&node.concrete)).find(|&slot| slots[slot] == NO_NODE);
+            if let (true, Some(free)) = (new, free) {
+                slots[free] = place as u16;
+            }
+        }
+    }
+
+    /// Every uncovered node that is not the lowest uncovered one of its concrete state.
+    fn shared(&self) -> Vec<u16> {
+        let uncovered = |&place: &usize| self.nodes[place].kind != Kind::Covered;
+        let same = |a: usize, b: usize| self.nodes[a].concrete == self.nodes[b].concrete;
+        let listed = |&place: &usize| (0..place).filter(uncovered).any(|lower| same(lower, place));
+        (0..self.nodes.len()).filter(uncovered).filter(listed).map(|place| place as u16).collect()
+    }
+}
+
+/// The nodes of a graph in their slots, with their hashes, so that a look-up compares
+/// states only where the hashes are equal.
+struct Table<'a> {
+    graph: &'a Graph,
+    hashes: Vec<u32>,
+    slots: &'a mut [u16],
+}
+
+impl<'a> Table<'a> {
+    fn new(graph: &'a Graph, slots: &'a mut [u16]) -> Table<'a> {
+        slots.fill(NO_NODE);
+        let hashes = graph.nodes.iter().map(|node| hash(&node.concrete)).collect();
+        let table = Table { graph, hashes, slots };
+        for (place, node) in graph.nodes.iter().enumerate() {
+            let slot = table.find(table.hashes[place], &node.concrete);
+            if table.slots[slot] == NO_NODE {
+                table.slots[slot] = place as u16;
+            }
+        }
+        table
+    }
+
+    /// The slot of a state, or the free one at which the look-up ends.
+    fn find(&self, hash: u32, state: &[i16]) -> usize {
+        let ends = |&slot: &usize| match usize::from(self.slots[slot]) {
+            place if place == usize::from(NO_NODE) => true,
+            place => self.hashes[place] == hash && self.graph.nodes[place].concrete == state,
+        };
+        slots_from(hash).find(ends).unwrap_or(0)
+    }
+
+    fn list(&self, listing: &mut [u16]) -> usize {
+        let mut seen = vec![false; self.hashes.len()];
+        let mut listed = 0;
+        for (place, node) in self.graph.nodes.iter().enumerate() {
+            if node.kind == Kind::Covered {
+                continue;
+            }
+            let lowest = usize::from(self.slots[self.find(self.hashes[place], &node.concrete)]);
+            if std::mem::replace(&mut seen[lowest], true) {
+                listing[listed] = place as u16;
+                listed += 1;
+            }
+        }
+        listed
+    }
+}
+
 fn checked(model: &[u8], graph: &[u8]) -> Checked<(Model, Graph)> {
     let model = Model::parse(model)?;
     let graph = Graph::parse(&model, graph)?;
@@ -762,6 +859,59 @@ pub fn figure(
         std::mem::swap(&mut last, &mut next);
     }
     Ok(Part { second: h % 2 == 1, nodes })
+}
+
+/// The graph, where slots, batch, answers and listing of these lengths are right for it,
+/// and how many values a state has.
+fn indexed(model: &[u8], graph: &[u8], lengths: [usize; 4]) -> Checked<(Graph, usize)> {
+    let (model, graph) = checked(model, graph)?;
+    let [slots, batch, answers, listing] = lengths;
+    let variables = model.variables.len();
+    ensure(slots == SLOTS, 34, 0)?;
+    ensure(batch.is_multiple_of(variables), 34, 1)?;
+    ensure(answers >= batch / variables, 34, 2)?;
+    ensure(listing >= graph.nodes.len(), 34, 3)?;
+    Ok((graph, variables))
+}
+
+/// The index: the slots, an answer for each state of the batch, and the uncovered nodes
+/// that share a concrete state; how many these are. Answers and listing are looked for
+/// among the nodes, with no hash. Later elements of both stay, and all rows when refused.
+pub fn index(
+    model: &[u8],
+    graph: &[u8],
+    slots: &mut [u16],
+    batch: &[i16],
+    answers: &mut [u16],
+    listing: &mut [u16],
+) -> Result<usize, Refusal> {
+    let lengths = [slots.len(), batch.len(), answers.len(), listing.len()];
+    let (graph, variables) = indexed(model, graph, lengths)?;
+    graph.enter_all(slots);
+    for (state, answer) in batch.chunks_exact(variables).zip(answers) {
+        *answer = graph.lowest(state).map_or(NO_NODE, |place| place as u16);
+    }
+    let shared = graph.shared();
+    listing[..shared.len()].copy_from_slice(&shared);
+    Ok(shared.len())
+}
+
+/// The same by look-ups in the slots.
+pub fn index_by_slots(
+    model: &[u8],
+    graph: &[u8],
+    slots: &mut [u16],
+    batch: &[i16],
+    answers: &mut [u16],
+    listing: &mut [u16],
+) -> Result<usize, Refusal> {
+    let lengths = [slots.len(), batch.len(), answers.len(), listing.len()];
+    let (graph, variables) = indexed(model, graph, lengths)?;
+    let table = Table::new(&graph, slots);
+    for (state, answer) in batch.chunks_exact(variables).zip(answers) {
+        *answer = table.slots[table.find(hash(state), state)];
+    }
+    Ok(table.list(listing))
 }
 
 /// The step of a state by a command and a branch. The new state stands first in
