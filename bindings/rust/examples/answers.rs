@@ -16,7 +16,9 @@
 //!   `second_before`, what these hold before the call;
 //! - for the step, `state`, `command`, `branch` and `result`, the length of the
 //!   result row; `result_before`, what this holds before the call;
-//! - for the view, `body` and `record`.
+//! - for the view, `body` and `record`;
+//! - for the index, `batch`, and `index_rows`, for each of slots, answers and listing
+//!   the length of the row and what all its elements are before the call.
 //!
 //! And `answers`, an object for each call. All but the last have `number` and
 //! `place`, those of the refusal, both 0 for acceptance:
@@ -28,6 +30,10 @@
 //!   many they are, false and 0 if refused; `first_row` and `second_row` are the rows
 //!   after the call;
 //! - `step`: `result` is the result row after the call;
+//! - `index`: `listed` is how many nodes are listed, 0 if refused; `slots`, after the
+//!   call, has slot and node for each slot that holds one, all others being 65,535, and
+//!   is null if refused, when the row stays; `answers` and `listing` are these rows
+//!   after the call;
 //! - `part`: the view, `start` and `length` of the record in the model folder.
 //!
 //! It exits with 2 for bad usage, 3 if its output cannot be written; a closed pipe
@@ -39,9 +45,9 @@ mod generate;
 mod reference;
 
 use generate::limits::limits;
-use generate::{result_before, row_before, Input};
+use generate::{index_before, result_before, row_before, Input};
 use laguipy::{Refusal, Summary};
-use reference::Part;
+use reference::{Part, NO_NODE};
 use std::io::{self, BufWriter, ErrorKind, Write};
 use std::process::ExitCode;
 
@@ -87,6 +93,22 @@ fn step_answer(input: &Input, mut result: Vec<i16>) -> String {
     format!(r#"{{{},"result":{result:?}}}"#, outcome(&answer))
 }
 
+fn index_answer(input: &Input) -> String {
+    let Input { model, graph, batch, .. } = input;
+    let [mut slots, mut answers, mut listing] = index_before(input.index_rows);
+    let answer = reference::index(model, graph, &mut slots, batch, &mut answers, &mut listing);
+    let held = slots.into_iter().map(usize::from).enumerate().filter(|&(_, node)| node != NO_NODE.into());
+    let slots = match answer {
+        Ok(_) => format!("{:?}", held.map(|(slot, node)| [slot, node]).collect::<Vec<_>>()),
+        Err(_) => "null".to_owned(),
+    };
+    format!(
+        r#"{{{},"listed":{},"slots":{slots},"answers":{answers:?},"listing":{listing:?}}}"#,
+        outcome(&answer),
+        answer.unwrap_or(0)
+    )
+}
+
 fn part_answer(Input { model, body, record, .. }: &Input) -> String {
     let part = reference::record_part(model, *body, *record);
     let start = part.as_ptr() as usize - model.as_ptr() as usize;
@@ -95,18 +117,33 @@ fn part_answer(Input { model, body, record, .. }: &Input) -> String {
 
 fn answers(input: &Input, rows: [Vec<u32>; 2], result: Vec<i16>) -> String {
     format!(
-        r#"{{"model":{{{}}},"graph":{},"figure":{},"step":{},"part":{}}}"#,
+        r#"{{"model":{{{}}},"graph":{},"figure":{},"step":{},"index":{},"part":{}}}"#,
         outcome(&reference::model_check(&input.model)),
         graph_answer(input),
         figure_answer(input, rows),
         step_answer(input, result),
+        index_answer(input),
         part_answer(input)
     )
 }
 
 /// An input with its answers. Names are plain text, which JSON quotes as Rust does.
 fn write_line(out: &mut impl Write, seed: Option<u64>, input: &Input) -> io::Result<()> {
-    let Input { name, model, graph, h, rows, state, command, branch, result, body, record, .. } = input;
+    let Input {
+        name,
+        model,
+        graph,
+        h,
+        rows,
+        state,
+        command,
+        branch,
+        result,
+        body,
+        record,
+        batch,
+        index_rows,
+    } = input;
     let seed = seed.map_or("null".to_owned(), |seed| seed.to_string());
     let before = [row_before(rows[0], 1), row_before(rows[1], 2)];
     let [first, second] = &before;
@@ -115,6 +152,11 @@ fn write_line(out: &mut impl Write, seed: Option<u64>, input: &Input) -> io::Res
     write!(out, r#""h":{h},"rows":{rows:?},"first_before":{first:?},"second_before":{second:?},"#)?;
     write!(out, r#""state":{state:?},"command":{command},"branch":{branch},"result":{result},"#)?;
     write!(out, r#""result_before":{row:?},"body":{body},"record":{record},"#)?;
+    write!(
+        out,
+        r#""batch":{batch:?},"index_rows":{:?},"#,
+        index_rows.map(|(length, fill)| [length, fill.into()])
+    )?;
     writeln!(out, r#""answers":{}}}"#, answers(input, before, row))
 }
 
