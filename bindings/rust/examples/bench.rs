@@ -13,6 +13,8 @@ mod reference;
 use generate::data::*;
 use generate::large::{deep_check, figures, Large};
 use generate::limits::plain;
+use generate::random::Random;
+use generate::states::{one_hash, one_slot, spread, Crowd};
 use std::hint::black_box;
 use std::time::{Duration, Instant};
 
@@ -89,6 +91,60 @@ fn step(model: &[u8], state: &[i16], command: usize, branch: usize, runs: usize)
     assert_eq!(result, plain);
 }
 
+/// The index, beside plain Rust that looks up states in the slots too.
+fn index(call: &str, model: &[u8], graph: &[u8], batch: &[i16], runs: usize) {
+    let rows = || [vec![0; SLOTS], vec![0; batch.len()], vec![0; MOST_NODES]];
+    let (mut proved, mut plain) = (rows(), rows());
+    report(
+        call,
+        runs,
+        || {
+            let [slots, answers, listing] = &mut proved;
+            laguipy::index(black_box(model), black_box(graph), slots, batch, answers, listing)
+                .expect("accepted");
+        },
+        || {
+            let [slots, answers, listing] = &mut plain;
+            let (model, graph) = (black_box(model), black_box(graph));
+            reference::index_by_slots(model, graph, slots, batch, answers, listing).expect("accepted");
+        },
+    );
+    assert_eq!(proved, plain);
+}
+
+/// How many states the batches have.
+const BATCH: usize = 100_000;
+
+/// A batch of these states, at random, from each list in turn.
+fn batch(lists: &[&[Vec<i16>]]) -> Vec<i16> {
+    let mut random = Random::new(0x6261_7463);
+    let any = |list: &[Vec<i16>]| list[random.below(list.len())].clone();
+    lists.iter().copied().cycle().take(BATCH).flat_map(any).collect()
+}
+
+/// The concrete states of as many nodes of as many variables as there may be.
+fn states_of(graph: &[u8]) -> Vec<Vec<i16>> {
+    let (fields, values) = (12, 2 * MOST_VARIABLES);
+    let records = graph[GRAPH_TABLE..].chunks_exact(fields + 2 * values).take(MOST_NODES);
+    let state = |bytes: &[u8]| bytes.chunks_exact(2).map(|b| i16::from_le_bytes([b[0], b[1]])).collect();
+    records.map(|record| state(&record[fields..][..values])).collect()
+}
+
+/// The index without a batch, with one of which half is there, with one of which
+/// nothing is.
+fn indexes(model: &[u8], graph: &[u8], absent: &[Vec<i16>], runs: usize) {
+    index("index, no batch", model, graph, &[], runs);
+    index("index, half there", model, graph, &batch(&[&states_of(graph), absent]), runs);
+    index("index, none there", model, graph, &batch(&[absent]), runs);
+}
+
+fn crowd(Crowd { name, pair, absent }: Crowd, runs: usize) {
+    let (model, graph) = (pair.model.bytes(), pair.graph.bytes());
+    heading(name, &model, &graph);
+    graph_check("graph check", &model, &graph, runs);
+    indexes(&model, &graph, &absent, runs);
+}
+
 /// A model on which the step's evaluators, which visit a part once per use, have
 /// the most to do: its one guard and all 16 assigned entries are of depth 12, an if
 /// or a comparison at each, and every part is the deepest there can be.
@@ -143,6 +199,14 @@ fn main() {
     model_check(&deep.model, 200);
     step(&deep.model, &deep.state, deep.command, deep.branch, 200);
     graph_check("graph check", &deep.model, &deep.graph, 20);
+    let mut absent = states_of(&deep.graph);
+    // No node has this value.
+    absent.iter_mut().for_each(|state| state[MOST_VARIABLES - 1] = 1);
+    indexes(&deep.model, &deep.graph, &absent, 20);
+
+    crowd(spread(), 30);
+    crowd(one_slot(), 5);
+    crowd(one_hash(), 1);
 
     for changing in [false, true] {
         let Large { name, model, graph, .. } = figures(changing);
@@ -168,6 +232,7 @@ fn main() {
     graph_check("graph check", &model, &graph, 10_000);
     figure(&model, &graph, 3, 10_000);
     step(&model, &state, 0, 1, 10_000);
+    index("index, no batch", &model, &graph, &[], 10_000);
 
     growth();
 }

@@ -76,8 +76,8 @@ pub fn shared(random: &mut Random) -> Pair {
     of_states(&nodes)
 }
 
-/// The most nodes, of different states that are hard to tell apart for an index, and as
-/// many more such states that are no node's.
+/// The most nodes, all waiting, of different states, and as many more such states that
+/// are no node's.
 pub struct Crowd {
     pub name: &'static str,
     pub pair: Pair,
@@ -90,6 +90,14 @@ impl Crowd {
         let nodes: Vec<_> = states.into_iter().map(|state| (WAITING, state)).collect();
         Crowd { name, pair: of_states(&nodes), absent }
     }
+}
+
+/// States as they come.
+pub fn spread() -> Crowd {
+    let mut random = Random::new(0x7370_7265);
+    let mut value = || random.between((-BOUND).into(), BOUND.into()) as i16;
+    let mut state = || (0..MOST_VARIABLES).map(|_| value()).collect();
+    Crowd::new("4,096 states as they come", (0..2 * MOST_NODES).map(|_| state()).collect())
 }
 
 /// All states have one first slot; they differ in the last two variables.
