@@ -1,7 +1,7 @@
 #!/usr/bin/env bash
 # The static library as its users link it: proves and builds it, runs the tests of the Rust binding against the plain
-# Rust calls, packages the crate, and compiles and runs the Rust and the C examples; then tries the scripts that keep
-# the version and the crate's copies of an example. Quiet unless something fails.
+# Rust calls, packages the crate, compiles and runs the Rust and the C examples and the test of the header; then tries
+# the scripts that keep the version and the crate's copies of an example. Quiet unless something fails.
 set -euo pipefail
 cd "$(dirname "$0")/.."
 
@@ -160,6 +160,12 @@ writes_answers "$programs/answers"
 
 ends 0 cc -std=c99 -O2 -Wall -Wextra -Werror -Iinclude examples/embed/embed.c target/staticlib/liblaguipy_c.a \
   -o target/embed
+for standard in c99 c++11; do
+  ends 0 cc -x "${standard%%[0-9]*}" -std="$standard" -O2 -Wall -Wextra -Werror -Iinclude tools/test_header.c -x none \
+    -Wl,-z,lazy target/staticlib/liblaguipy_c.a -o target/test_header
+  ends 0 target/test_header examples/pedal/model.fold examples/pedal/graph.fold
+  says_nothing
+done
 prints_expected target/embed
 ends_otherwise target/embed embed
 
