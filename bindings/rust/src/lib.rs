@@ -68,7 +68,7 @@ pub const CERTAIN: u32 = 1_000_000_000;
 pub const MOST_STEPS: usize = 10_000;
 
 /// The most nodes that a graph may have: rows of this length are long enough for
-/// the figures of any.
+/// the figures and the listing of any.
 pub const MOST_NODES: usize = 4_096;
 
 /// The most variables that a model may have: a result row of this length is long

@@ -24,7 +24,7 @@ fn hash_from(hash: u32, values: &[i16]) -> u32 {
     values.iter().flat_map(|value| value.to_le_bytes()).fold(hash, step)
 }
 
-pub fn hash(state: &[i16]) -> u32 {
+fn hash(state: &[i16]) -> u32 {
     hash_from(START, state)
 }
 
