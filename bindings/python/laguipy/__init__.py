@@ -16,15 +16,17 @@ units are certainty. Every call is proved to answer so, on every input; what is 
 """
 from .errors import InputError
 from .graphs import show_graph, write_graph
-from .limits import CERTAIN, GRAPH_BYTES, MODEL_BYTES, MOST_NODES, MOST_STEPS, MOST_VARIABLES
+from .limits import CERTAIN, GRAPH_BYTES, MODEL_BYTES, MOST_NODES, MOST_STEPS, MOST_VARIABLES, NO_NODE, SLOTS
 from .models import show_model, write_model
 from .native import (
     Refusal,
+    Shared,
     Summary,
     figure,
     figure_refusal,
     figure_rows,
     graph_check,
+    index,
     model_check,
     record_part,
     step,
@@ -42,13 +44,17 @@ __all__ = [
     "MOST_NODES",
     "MOST_STEPS",
     "MOST_VARIABLES",
+    "NO_NODE",
     "Refusal",
     "RunError",
+    "SLOTS",
+    "Shared",
     "Summary",
     "figure",
     "figure_refusal",
     "figure_rows",
     "graph_check",
+    "index",
     "model_check",
     "record_part",
     "show_graph",

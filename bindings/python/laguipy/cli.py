@@ -7,7 +7,7 @@ import re
 import shlex
 import sys
 
-from . import check, explain, graphs, models, native, series, texts, where
+from . import check, explain, graphs, models, native, series, shared, texts, where
 from .errors import InputError, UsageError
 from .files import STANDARD, at_most_one_standard, load, of, save
 from .findings import ADVICE, FIGURE_REFUSALS, MEANING
@@ -17,7 +17,7 @@ from .output import DONE, REFUSED, USAGE, emit, guarded, plain, say, say_error
 from .version import version
 
 PROGRAM = "laguipy"
-COMMANDS = ("check", "figures", "model", "graph", "show", "explain")
+COMMANDS = ("check", "figures", "index", "model", "graph", "show", "explain")
 
 ABOUT = """\
 Checks simulation graphs of Markov decision processes. What it reports of an accepted graph is proved: no strategy
@@ -25,6 +25,7 @@ reaches a target with a greater chance than the root value.
 
   laguipy [check] DIR        the report on model.fold and graph.fold in DIR; or name the two files
   laguipy figures DIR H..    the chance at worst within H steps, for any H to 10000, of any node
+  laguipy index DIR          which nodes share a concrete state, and which node has a given one
   laguipy explain DIR        what a refusal means here, and what to do
   laguipy model FILE         text to a model folder, checked
   laguipy graph FILE         text to a graph folder, checked
@@ -75,7 +76,7 @@ def is_number(word):
 
 
 def is_option(word):
-    return word.startswith("-") and word != STANDARD and not is_number(word)
+    return word.startswith("-") and word != STANDARD and not re.fullmatch("-[0-9][0-9, +-]*", word)
 
 
 def run_figures(args):
@@ -113,6 +114,32 @@ def refused(args, refusal):
         more = ADVICE[refusal.number] if refusal.number in FIGURE_REFUSALS else f"`{PROGRAM} explain` says more"
         say(PROGRAM, f"{refusal.number}: {meaning}; {more}")
     return REFUSED
+
+
+def is_state(word):
+    return re.fullmatch("[^/]*=.*|[+-]?[0-9][0-9, +-]*", word) is not None and not os.path.exists(word)
+
+
+def run_index(args):
+    pair = pair_of([word for word in args.words if not is_state(word)], where.example)
+    model, graph = pair.model_bytes, pair.graph_bytes
+    try:
+        native.graph_check(model, graph)
+    except native.Refusal as refusal:
+        return refused(args, refusal)
+    names, wrong = pair.names()
+    say_names(wrong)
+    if args.states is not None:
+        at_most_one_standard(*pair.paths, args.states)
+    states = [shared.state_of(text, names.variables) for text in filter(is_state, args.words)]
+    if args.states is not None:
+        states += of(args.states, lambda: shared.states_in(args.states, names.variables))
+    twins, found = shared.look_up(model, graph, states)
+    if args.json:
+        emit(json.dumps(shared.data(twins, found, names.variables)) + "\n")
+    else:
+        emit(*(line + "\n" for line in shared.lines(twins, found, names.variables)))
+    return DONE
 
 
 def finish_text(args, out, written, wrong, store):
@@ -247,6 +274,21 @@ def add_figures(commands):
     command.add_argument("--csv", action="store_true", help="as comma-separated values")
 
 
+INDEX = """\
+PLACE is as for check. Each node that is listed is uncovered and has the concrete state of a lower uncovered node: an
+explorer might have covered one of the two by the other. `shared 0` says that there is none.
+
+A state is a value for each variable, by name or in the order of the model: a=0,d=1 or 0,1. Its answer is the lowest
+node with that concrete label, also a covered one.
+"""
+
+
+def add_index(commands):
+    command = add(commands, "index", run_index, "Lists nodes that share a concrete state, and finds states.", INDEX)
+    command.add_argument("words", nargs="*", metavar="PLACE | STATE")
+    command.add_argument("--states", metavar="FILE", help="states to find, one to a line; - for standard input")
+
+
 def add_explain(commands):
     about = "Says what a refusal means here, and what to do."
     command = add(commands, "explain", run_explain, about, "PLACE is as for check.")
@@ -285,6 +327,7 @@ def parser():
     commands = whole.add_subparsers(prog=PROGRAM, **kept)
     add_check(commands)
     add_figures(commands)
+    add_index(commands)
     add_explain(commands)
     add_texts(commands)
     add_show(commands)

@@ -56,6 +56,7 @@ ADVICE = {
     26: "explore on until no node waits; the root value is a bound all the same",
     27: "ask for at most 10000 steps; the root value is a bound for any number of them",
     28: "lend two rows of at least one element per node",
+    34: "lend 8192 slots, whole states, an answer for each of them, and a listing element for each node",
 }
 
 # What each number means in a few words; docs/REFUSALS.md has more.
@@ -93,4 +94,5 @@ MEANING = {
     31: "no such command",
     32: "the command's guard is false in the state",
     33: "the command has no such branch",
+    34: "a row of the index call has the wrong length",
 }

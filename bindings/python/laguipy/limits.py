@@ -16,6 +16,8 @@ FARTHEST = 1_000_000  # the range of every number, either side
 LEAST_GRAPH_BYTES = 16
 GRAPH_BYTES = 1_048_576
 MOST_NODES = 4_096
+SLOTS = 8_192  # of the index
+NO_NODE = 65_535  # an empty slot, and the answer where no node has a state
 
 MOST_STEPS = 10_000  # of a figure
 

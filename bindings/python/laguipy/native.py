@@ -4,8 +4,8 @@ that was lent stays as it was. Calls may be made from any number of threads at o
 Folders are bytes. `bytes` are passed as they are; of anything else that holds bytes (bytearray, memoryview, mmap) a
 copy is taken first, because nobody may write to a folder during a call, and only `bytes` cannot be written to.
 
-Rows are lent to be written: any writable buffer of unsigned 4-byte (figures) or signed 2-byte (states) elements, as
-array('I'), array('h') or such an array of numpy. They are written where they stand; nobody else may use them during the
+Rows are lent to be written: any writable buffer of unsigned 4-byte (figures), unsigned 2-byte (nodes) or signed 2-byte
+(states) elements, as array('I'), array('H'), array('h') or such an array of numpy. They are written where they stand; nobody else may use them during the
 call, and no two may overlap.
 """
 import ctypes
@@ -15,11 +15,14 @@ from array import array
 from typing import NamedTuple
 
 from . import where
-from .limits import MOST_NODES, MOST_VARIABLES
+from .limits import MOST_NODES, MOST_VARIABLES, SLOTS
 from .output import RunError
 
 UNIT = ("I", 4)  # a row of figures: unsigned, 4 bytes
 VALUE = ("h", 2)  # a state: signed, 2 bytes
+NODE = ("H", 2)  # a row of nodes: unsigned, 2 bytes
+FORMATS = {"I": ("I", "L"), "h": ("h",), "H": ("H",)}
+VARIABLE_BYTES = 6  # of a variable's record in the model folder
 MOST_SIZE = 2 ** (8 * ctypes.sizeof(ctypes.c_size_t)) - 1
 
 
@@ -55,6 +58,14 @@ class Summary(NamedTuple):
         return self.waiting + self.expanded + self.covered + self.target
 
 
+class Shared(NamedTuple):
+    """What the index call finds, as parts of the rows that it was lent: every uncovered node that is not the lowest
+    uncovered one of its concrete label, ascending; and for each state the lowest node with it, or NO_NODE."""
+
+    listed: memoryview
+    answers: memoryview
+
+
 # ---- the library
 
 SIZE = ctypes.c_size_t
@@ -71,6 +82,7 @@ CALLS = {
     "laguipy_figure_rows": (*FOLDER, *FOLDER, SIZE, *ROW, *ROW, PLACE),
     "laguipy_figure": (*FOLDER, *FOLDER, SIZE, *ROW, *ROW, PLACE, PLACE),
     "laguipy_step": (*FOLDER, *ROW, SIZE, SIZE, *ROW, PLACE),
+    "laguipy_index": (*FOLDER, *FOLDER, *ROW, *ROW, *ROW, *ROW, PLACE, PLACE),
 }
 
 
@@ -118,8 +130,8 @@ class Row:
     def __init__(self, row, element, what):
         code, size = element
         view = row_view(row, what)
-        if view.itemsize != size or view.format[-1:] not in (("I", "L") if code == "I" else ("h",)):
-            raise TypeError(f"{what} has elements of {size} bytes, {'unsigned' if code == 'I' else 'signed'} "
+        if view.itemsize != size or view.format[-1:] not in FORMATS[code]:
+            raise TypeError(f"{what} has elements of {size} bytes, {'signed' if code == 'h' else 'unsigned'} "
                             f"(array({code!r})), and these are {view.format!r} of {view.itemsize}")
         if view.readonly:
             raise TypeError(f"{what} is written to, and this one can only be read")
@@ -156,11 +168,16 @@ def row_view(row, what):
     return view
 
 
-def two_rows(first, second):
-    rows = Row(first, UNIT, "the first row"), Row(second, UNIT, "the second row")
-    if rows[0].overlaps(rows[1]):
-        raise ValueError("the two rows overlap")
+def apart(*rows):
+    """Rows of which no two overlap."""
+    for n, row in enumerate(rows):
+        if any(row.overlaps(other) for other in rows[:n]):
+            raise ValueError("two rows overlap")
     return rows
+
+
+def two_rows(first, second):
+    return apart(Row(first, UNIT, "the first row"), Row(second, UNIT, "the second row"))
 
 
 def size(number, what):
@@ -174,6 +191,11 @@ def size(number, what):
 def units(count):
     """A row of so many figures, all 0."""
     return array("I", bytes(4 * count))
+
+
+def nodes(count):
+    """A row of so many nodes, all 0."""
+    return array("H", bytes(2 * count))
 
 
 def answered(number, place):
@@ -255,6 +277,38 @@ def step(model, state, command, branch, result=None):
     call = loaded().laguipy_step
     answered(call(*passed(folder_bytes(model)), *given.arguments, *numbers, *row.arguments, place), place)
     return memoryview(held)[: len(values)]
+
+
+def index(model, graph, batch=(), slots=None, answers=None, listing=None):
+    """Which nodes share a concrete state: `Shared`. The batch is states one after the other, of one value per variable
+    each. The slots are filled afresh with the nodes by the hash of their concrete label; later elements of answers and
+    listing stay. For rows that are not lent, new ones serve.
+
+    Refused with the graph check's refusal; then 34, at 0 where the slots are not SLOTS, at 1 where the batch is not
+    whole states, at 2 where the answers are fewer than the states, at 3 where the listing is shorter than the nodes.
+    """
+    values = batch if isinstance(batch, array) and batch.typecode == "h" else state_values(batch)
+    held = nodes(SLOTS) if slots is None else slots
+    # A state has a value at least, so that there are no more states than values.
+    found = nodes(len(values)) if answers is None else answers
+    listed = nodes(MOST_NODES) if listing is None else listing
+    place, count = SIZE(), SIZE()
+    rows = apart(
+        Row(held, NODE, "the slots"),
+        Row(values, VALUE, "the batch"),
+        Row(found, NODE, "the answer row"),
+        Row(listed, NODE, "the listing"),
+    )
+    folders = *passed(folder_bytes(model)), *passed(folder_bytes(graph))
+    lent = [argument for row in rows for argument in row.arguments]
+    answered(loaded().laguipy_index(*folders, *lent, place, count), place)
+    states = len(values) // max(1, variables_of(model))
+    return Shared(memoryview(listed)[: count.value], memoryview(found)[:states])
+
+
+def variables_of(model):
+    """How many variables an accepted model has: its second body, by the second entry of its table of contents."""
+    return int.from_bytes(folder_bytes(model)[12:16], "little") // VARIABLE_BYTES
 
 
 def state_values(state):

@@ -13,6 +13,7 @@ import laguipy
 from laguipy import Refusal, native
 
 MODEL, GRAPH = example("pedal")
+NONE = laguipy.NO_NODE
 FIGURES = [10_000_000, 0, 100_000_000, 10_000_000, 0, laguipy.CERTAIN]
 
 
@@ -69,6 +70,37 @@ class Answers(unittest.TestCase):
         self.assertEqual(result.tolist(), [7] * 4)
         self.assertEqual(laguipy.step(MODEL, [0, 0], 0, 1, result).tolist(), [1, 0])
         self.assertEqual(result.tolist(), [1, 0, 7, 7])
+
+
+    def test_index(self):
+        """The pedal example: node 4 shares node 1's state, and is covered; explored twice, it is listed."""
+        states = [0, 0, 3, 0, 1, 0, 0, 1, 2, 0, 3, 1, -1, 0]
+        found = laguipy.index(MODEL, GRAPH, states)
+        self.assertEqual((found.listed.tolist(), found.answers.tolist()), ([], [0, 1, 2, 3, 5, NONE, NONE]))
+        slots, answers, listing = (array("H", [9] * length) for length in (laguipy.SLOTS, 9, 8))
+        found = laguipy.index(*example("explored_twice"), array("h", states), slots, answers, listing)
+        self.assertEqual((found.listed.tolist(), listing.tolist()), ([4], [4] + [9] * 7))
+        self.assertEqual(answers.tolist(), [0, 1, 2, 3, 5, NONE, NONE, 9, 9])
+        self.assertEqual(sorted(slots)[:6], [0, 1, 2, 3, 5, NONE])
+        self.assertEqual((found.listed.obj, found.answers.obj), (listing, answers))
+        self.assertEqual(laguipy.index(MODEL, GRAPH).answers.tolist(), [])
+
+    def test_index_refused(self):
+        wrong = (((8191, 3, 6), [0, 0], 0), ((8192, 3, 6), [0], 1), ((8192, 0, 6), [0, 0], 2), ((8192, 1, 5), [0, 0], 3))
+        for lengths, batch, place in wrong:
+            lent = [array("H", [9] * length) for length in lengths]
+            self.assertEqual(self.refused(laguipy.index, MODEL, GRAPH, batch, *lent), (34, place))
+            self.assertEqual([row.tolist() for row in lent], [[9] * length for length in lengths])
+        self.assertEqual(self.refused(laguipy.index, MODEL, GRAPH[:-1], [0]), (13, 1))
+
+    def test_index_arguments(self):
+        room = array("H", bytes(2 * laguipy.SLOTS))
+        for rows in ((room, room), (bytearray(16384),), (array("h", room),), (array("I", room),), ([0] * 8192,)):
+            with self.assertRaises((TypeError, ValueError)):
+                laguipy.index(MODEL, GRAPH, [0, 0], *rows)
+        for batch in ([40_000, 0], ["a", "b"], None, [0.5, 1]):
+            with self.assertRaises((TypeError, ValueError)):
+                laguipy.index(MODEL, GRAPH, batch)
 
 
 class Arguments(unittest.TestCase):
@@ -195,6 +227,7 @@ class Independent(unittest.TestCase):
         result = array("h", case["result_before"])
         came, _ = self.answer(laguipy.step, model, case["state"], case["command"], case["branch"], result)
         self.assertEqual((came, result.tolist()), (self.due(case, "step"), answers["step"]["result"]), name)
+        self.compare_index(case, model, graph, name)
 
     def compare_figures(self, case, model, graph, name):
         due = case["answers"]["figure"]
@@ -212,13 +245,27 @@ class Independent(unittest.TestCase):
                 self.assertIs(part.obj, before[due["second"]], name)
 
 
+    def compare_index(self, case, model, graph, name):
+        due, before = case["answers"]["index"], [array("H", [fill] * length) for length, fill in case["index_rows"]]
+        slots, answers, listing = rows = [row[:] for row in before]
+        came, found = self.answer(laguipy.index, model, graph, case["batch"], *rows)
+        self.assertEqual(came, self.due(case, "index"), name)
+        if due["slots"] is None:
+            self.assertEqual((rows, found), (before, None), name)
+            return
+        entered = [[slot, node] for slot, node in enumerate(slots) if node != NONE]
+        self.assertEqual((entered, len(slots)), (due["slots"], laguipy.SLOTS), name)
+        self.assertEqual((answers.tolist(), listing.tolist()), (due["answers"], due["listing"]), name)
+        self.assertEqual(found.listed.tolist(), due["listing"][: due["listed"]], name)
+
+
 class Header(unittest.TestCase):
     def test_limits_and_version(self):
         """The numbers of the header are those of the package."""
         text = read(os.path.join(os.path.dirname(__file__), "..", "..", "..", "include", "laguipy.h"), "r")
         words = [line.split() for line in text.splitlines() if line.startswith("#define LAGUIPY_")]
         defined = {line[1]: line[2] for line in words if len(line) == 3}
-        for name in ("CERTAIN", "MOST_NODES", "MOST_VARIABLES", "MOST_STEPS", "MODEL_BYTES", "GRAPH_BYTES"):
+        for name in ("CERTAIN", "MOST_NODES", "MOST_VARIABLES", "MOST_STEPS", "MODEL_BYTES", "GRAPH_BYTES", "SLOTS", "NO_NODE"):
             self.assertEqual(int(defined[f"LAGUIPY_{name}"]), getattr(laguipy, name), name)
         self.assertEqual(defined["LAGUIPY_VERSION"].strip('"'), laguipy.__version__)
 
