@@ -5,8 +5,8 @@ Folders are bytes. `bytes` are passed as they are; of anything else that holds b
 copy is taken first, because nobody may write to a folder during a call, and only `bytes` cannot be written to.
 
 Rows are lent to be written: any writable buffer of unsigned 4-byte (figures), unsigned 2-byte (nodes) or signed 2-byte
-(states) elements, as array('I'), array('H'), array('h') or such an array of numpy. They are written where they stand; nobody else may use them during the
-call, and no two may overlap.
+(states) elements, as array('I'), array('H'), array('h') or such an array of numpy. They are written where they stand;
+nobody else may use them during the call, and no two may overlap.
 """
 import ctypes
 import functools

@@ -86,8 +86,8 @@ class Answers(unittest.TestCase):
         self.assertEqual(laguipy.index(MODEL, GRAPH).answers.tolist(), [])
 
     def test_index_refused(self):
-        wrong = (((8191, 3, 6), [0, 0], 0), ((8192, 3, 6), [0], 1), ((8192, 0, 6), [0, 0], 2), ((8192, 1, 5), [0, 0], 3))
-        for lengths, batch, place in wrong:
+        wrong = ((8191, 3, 6), [0, 0]), ((8192, 3, 6), [0]), ((8192, 0, 6), [0, 0]), ((8192, 1, 5), [0, 0])
+        for place, (lengths, batch) in enumerate(wrong):
             lent = [array("H", [9] * length) for length in lengths]
             self.assertEqual(self.refused(laguipy.index, MODEL, GRAPH, batch, *lent), (34, place))
             self.assertEqual([row.tolist() for row in lent], [[9] * length for length in lengths])
@@ -265,7 +265,8 @@ class Header(unittest.TestCase):
         text = read(os.path.join(os.path.dirname(__file__), "..", "..", "..", "include", "laguipy.h"), "r")
         words = [line.split() for line in text.splitlines() if line.startswith("#define LAGUIPY_")]
         defined = {line[1]: line[2] for line in words if len(line) == 3}
-        for name in ("CERTAIN", "MOST_NODES", "MOST_VARIABLES", "MOST_STEPS", "MODEL_BYTES", "GRAPH_BYTES", "SLOTS", "NO_NODE"):
+        limits = "CERTAIN MOST_NODES MOST_VARIABLES MOST_STEPS MODEL_BYTES GRAPH_BYTES SLOTS NO_NODE"
+        for name in limits.split():
             self.assertEqual(int(defined[f"LAGUIPY_{name}"]), getattr(laguipy, name), name)
         self.assertEqual(defined["LAGUIPY_VERSION"].strip('"'), laguipy.__version__)
 
