@@ -19,7 +19,7 @@ ghost use Rattle.graph.specs.Figures.{figureOutcome, firstRow, secondRow, figur
 pub fn model_check(model: &[u8]) -> Outcome
     ensures { λ r. ⌜ r ≡ modelOutcome (now (model .entry)) ⌝ }
 {
-    content::check_model(model)
+    model_rules::check_model(model)
 }
 
 // The view: record i of body e, as a part of the folder. Where the folder breaks rows 1 to 3, or has no such body or
@@ -35,10 +35,10 @@ pub fn record_part(model: &[u8], e: usize, i: usize) -> &[u8]
 fn graph_outcome(m: &[u8], g: &[u8]) -> Outcome
     ensures { λ r. ⌜ r ≡ graphOutcome (now (m .entry)) (now (g .entry)) ⌝ }
 {
-    let o = content::check_model(m);
+    let o = model_rules::check_model(m);
     match o {
         Outcome::Refused(f) => Outcome::Refused(f),
-        Outcome::Accepted => nodes::check_graph(m, g),
+        Outcome::Accepted => graph_rules::check_graph(m, g),
     }
 }
 
@@ -49,7 +49,7 @@ pub fn graph_check(model: &[u8], graph: &[u8]) -> GraphAnswer
     let o = graph_outcome(model, graph);
     match o {
         Outcome::Refused(f) => GraphAnswer::Refused(f),
-        Outcome::Accepted => GraphAnswer::Accepted(nodes::summary_of(model, graph)),
+        Outcome::Accepted => GraphAnswer::Accepted(graph_rules::summary_of(model, graph)),
     }
 }
 

@@ -160,7 +160,7 @@ pub fn step(m: &[u8], state: &[i16], command: usize, branch: usize, result: &mut
     ensures { λ o. ⌜ o ≡ stepOutcome (now (m .entry)) (now (state .entry)) command branch (now (result .entry)) ⌝ }
     ensures { λ _. ⌜ now (result .exit) ≡ stepRow (now (m .entry)) (now (state .entry)) command branch (now (result .entry)) ⌝ }
 {
-    let o = content::check_model(m);
+    let o = model_rules::check_model(m);
     match o {
         Outcome::Accepted => check_step(m, state, command, branch, result),
         Outcome::Refused(f) => Outcome::Refused(f),
