@@ -55,8 +55,8 @@ extern "C" {
 #define LAGUIPY_MODEL_BYTES 40000
 #define LAGUIPY_GRAPH_BYTES 1048576
 
-/* Stack that is enough for any call; the index uses most of it. */
-#define LAGUIPY_STACK_BYTES 81920
+/* Stack that is enough for any call; the index and the figure calls use most of it. */
+#define LAGUIPY_STACK_BYTES 65536
 
 /* The elements of `values` of laguipy_graph_check: the root value in units, and the nodes of each kind. */
 enum {
