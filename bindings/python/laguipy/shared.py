@@ -43,8 +43,9 @@ def value_of(word, what):
 
 
 def state_of(text, names):
-    """A state from text: `a=0 d=1`, in any order, or `0 1`, in the order of the variables; commas part too."""
-    words = text.replace(",", " ").split()
+    """A state from text: `a=0 d=1`, in any order, or `0 1`, in the order of the variables; commas part too, and spaces
+    may stand around `=`, as where other commands print a state."""
+    words = re.sub(r"\s*=\s*", "=", text).replace(",", " ").split()
     if not any("=" in word for word in words):
         if len(words) != len(names):
             wanted = counted(len(names), "value")

@@ -22,7 +22,7 @@ class Index(Room):
         self.assertEqual(start("index", files[0], "-", input=read(files[1])).stdout, told)
 
     def test_states(self):
-        status, out, _ = run("index", PEDAL, "a=3,d=0", "d=1 a=0", "3,1", "-1,0", "2 0")
+        status, out, _ = run("index", PEDAL, "a=3,d=0", "d = 1, a = 0", "3,1", "-1,0", "2 0")
         told = "shared 0|a=3 d=0: node 1|a=0 d=1: node 3|a=3 d=1: no node|a=-1 d=0: no node|a=2 d=0: node 5"
         self.assertEqual((status, out.decode().splitlines()), (0, told.replace("|", "|state ").split("|")))
         path = self.path("states", b"a=3 d=0  # shown\n\n# none\n0,1\n")
