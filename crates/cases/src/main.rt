@@ -3,6 +3,8 @@
 use clamped::add;
 use clamped::long;
 use graph::GraphAnswer;
+use lookup::MOST_NUMBERS;
+use lookup::index_case;
 use samples::build::asked;
 use samples::build::change;
 use samples::build::due;
@@ -23,8 +25,6 @@ use tally::outcome_of;
 use tally::say;
 use witness::box_steps;
 use witness::figure_case;
-use witness::lookup::MOST_NUMBERS;
-use witness::lookup::index_case;
 use witness::zero_step;
 
 // The longest model and the longest graph, and one byte more of each.

@@ -208,6 +208,26 @@ pub fn concrete(m: &[u8], g: &[u8], i: usize) -> [usize; MOST_VARIABLES] {
     values_at(g, add(node_start(m, g, i), 12), 2, variables(m))
 }
 
+// A number as the library takes it.
+pub fn small(x: usize) -> i16 {
+    if x < ZERO {
+        let d = ZERO - x;
+        if d < HALF_LIMIT {
+            !((d - 1) as i16)
+        } else {
+            i16::MIN
+        }
+    } else {
+        let d = x - ZERO;
+        if d < HALF_LIMIT { d as i16 } else { i16::MAX }
+    }
+}
+
+// The first n values of a row, or all.
+pub fn first_values(s: &[i16], n: usize) -> &[i16] {
+    if n <= s.len() { &s[0..n] } else { s }
+}
+
 pub fn is_covered(m: &[u8], g: &[u8], i: usize) -> bool {
     field(g, node_start(m, g, i)) == 2
 }

@@ -8,6 +8,7 @@ use clamped::mul;
 use clamped::sub;
 use folder::FIELD_LIMIT;
 use graph::UNITS;
+use lookup::index_as;
 use samples::build::pedal_graph;
 use samples::build::pedal_model;
 use samples::build::put16;
@@ -24,7 +25,6 @@ use tally::outcome_of;
 use tally::place_of;
 use witness::bounds;
 use witness::box_steps;
-use witness::lookup::index_as;
 use witness::rows_case;
 
 // The greatest D: it is a field of 2 bytes.

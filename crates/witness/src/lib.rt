@@ -1,14 +1,13 @@
-// The library's steps, figures and root values against the solver's, and the figure and index calls' answers and rows.
-// Safe and ending on any arguments; its contracts say no more.
-pub mod lookup;
-
-use clamped::HALF_LIMIT;
+// The library's steps, figures and root values against the solver's, and the figure call's answers and rows. Safe and
+// ending on any arguments; its contracts say no more.
 use clamped::add;
 use clamped::sub;
 use graph::MOST_NODES;
 use solver::MOST_VARIABLES;
 use solver::Trial;
 use solver::ZERO;
+use solver::first_values;
+use solver::small;
 use tally::BOUNDS;
 use tally::STEPS;
 use tally::TALLY;
@@ -20,20 +19,6 @@ use tally::number_of;
 
 // The rows beyond a result, and a refused step's, keep this.
 const KEPT: i16 = 7;
-
-fn small(x: usize) -> i16 {
-    if x < ZERO {
-        let d = ZERO - x;
-        if d < HALF_LIMIT {
-            !((d - 1) as i16)
-        } else {
-            i16::MIN
-        }
-    } else {
-        let d = x - ZERO;
-        if d < HALF_LIMIT { d as i16 } else { i16::MAX }
-    }
-}
 
 // The first n values as the library takes them.
 fn row_of(s: &[usize; MOST_VARIABLES], n: usize) -> [i16; MOST_VARIABLES] {
@@ -57,10 +42,6 @@ fn same_rows(a: &[i16; MOST_VARIABLES], b: &[i16; MOST_VARIABLES]) -> bool {
         i += 1;
     }
     true
-}
-
-fn first_values(s: &[i16], n: usize) -> &[i16] {
-    if n <= s.len() { &s[0..n] } else { s }
 }
 
 fn first_room(s: &mut [i16], n: usize) -> &mut [i16] {

@@ -1,6 +1,6 @@
 use Prim.Native.Nat.{_≤_, _-_}
 use borrow.Author.Needs.{needs}
-use Rattle.witness.specs.Limits.{mostNumbers}
+use Rattle.lookup.specs.Limits.{mostNumbers}
 use Rattle.cases.proofs.hash_of.Statement.{statement}
 use Rattle.cases.proofs.hash_of.Tie as tie
 

@@ -1,8 +1,8 @@
 use Prim.Native.Nat.{_≤_, _-_}
 use borrow.Author.Needs.{needs}
 use Rattle.solver.specs.Limits.{mostVariables}
-use Rattle.witness.proofs.lookup.state_of.Statement.{statement}
-use Rattle.witness.proofs.lookup.state_of.Tie as tie
+use Rattle.lookup.proofs.state_of.Statement.{statement}
+use Rattle.lookup.proofs.state_of.Tie as tie
 
 abbrev Inv-loop : tie.InvT-loop
 Inv-loop a vars k row₀ v₀ row v = v ≤ mostVariables

@@ -1,23 +1,22 @@
 use Prim.Native.Nat.{_≤_, _-_}
 use borrow.Author.Needs.{needs}
-use Rattle.graph.specs.Limits.{slotCount}
-use Rattle.witness.proofs.lookup.free_from.Statement.{statement}
-use Rattle.witness.proofs.lookup.free_from.Tie as tie
+use lib.ListN.{length}
+use Rattle.lookup.proofs.kept_from.Statement.{statement}
+use Rattle.lookup.proofs.kept_from.Tie as tie
 
 abbrev Inv-loop : tie.InvT-loop
-Inv-loop due p d₀ d = d ≤ slotCount
+Inv-loop row n i₀ i = 0 ≤ i
 
 abbrev μ-loop : tie.MeasureT-loop
-μ-loop due p d₀ d = slotCount - d
+μ-loop row n i₀ i = length row - i
 
-pub free-from-spec : {M : Type 1} → statement M
-free-from-spec =
+pub kept-from-spec : {M : Type 1} → statement M
+kept-from-spec =
     tie.close
     (tie.spec
     Inv-loop
     μ-loop
     (λ c. search needs)
-    (λ c κs. search needs)
     (λ c. search needs)
     (λ c. search needs)
     (λ c. search needs)

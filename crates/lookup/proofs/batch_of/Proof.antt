@@ -1,8 +1,8 @@
 use Prim.Native.Nat.{_≤_, _-_}
 use borrow.Author.Needs.{needs}
-use Rattle.witness.specs.Limits.{mostNumbers}
-use Rattle.witness.proofs.lookup.batch_of.Statement.{statement}
-use Rattle.witness.proofs.lookup.batch_of.Tie as tie
+use Rattle.lookup.specs.Limits.{mostNumbers}
+use Rattle.lookup.proofs.batch_of.Statement.{statement}
+use Rattle.lookup.proofs.batch_of.Tie as tie
 
 abbrev Inv-loop : tie.InvT-loop
 Inv-loop a row₀ i₀ row i = i ≤ mostNumbers

@@ -1,7 +1,7 @@
 use Prim.Native.Nat.{_≤_, _-_}
 use borrow.Author.Needs.{needs}
-use Rattle.witness.proofs.lookup.enter_all.Statement.{statement}
-use Rattle.witness.proofs.lookup.enter_all.Tie as tie
+use Rattle.lookup.proofs.enter_all.Statement.{statement}
+use Rattle.lookup.proofs.enter_all.Tie as tie
 
 abbrev Inv-loop : tie.InvT-loop
 Inv-loop due₀ m g nodes n₀ due n = n ≤ nodes

@@ -1,17 +1,17 @@
 use Prim.Native.Nat.{_≤_, _-_}
 use borrow.Author.Needs.{needs}
 use Rattle.graph.specs.Limits.{slotCount}
-use Rattle.witness.proofs.lookup.same_slots.Statement.{statement}
-use Rattle.witness.proofs.lookup.same_slots.Tie as tie
+use Rattle.lookup.proofs.free_from.Statement.{statement}
+use Rattle.lookup.proofs.free_from.Tie as tie
 
 abbrev Inv-loop : tie.InvT-loop
-Inv-loop row due i₀ i = i ≤ slotCount
+Inv-loop due p d₀ d = d ≤ slotCount
 
 abbrev μ-loop : tie.MeasureT-loop
-μ-loop row due i₀ i = slotCount - i
+μ-loop due p d₀ d = slotCount - d
 
-pub same-slots-spec : {M : Type 1} → statement M
-same-slots-spec =
+pub free-from-spec : {M : Type 1} → statement M
+free-from-spec =
     tie.close
     (tie.spec
     Inv-loop
@@ -24,5 +24,4 @@ same-slots-spec =
     (λ c. search needs)
     (λ c. search needs)
     (λ c. search needs)
-    (λ c κs. search needs)
     (λ c. search needs))

@@ -1,7 +1,5 @@
-// The index call's answer and its rows against a search that goes through the nodes. A batch is of numbers as the solver
-// keeps them.
-use crate::first_values;
-use crate::small;
+// The index call's answer and its rows against a search that goes through the nodes. Safe and ending on any arguments;
+// its contracts say no more.
 use clamped::add;
 use clamped::mul;
 use clamped::sub;
@@ -13,6 +11,8 @@ use solver::MOST_VARIABLES;
 use solver::ZERO;
 use solver::concrete;
 use solver::first_like;
+use solver::first_values;
+use solver::small;
 use tally::TALLY;
 use tally::hold;
 use tally::judge;
