@@ -15,6 +15,7 @@ from .inputs import model_names, pair_of
 from .names import save_model
 from .output import DONE, REFUSED, USAGE, emit, guarded, plain, say, say_error
 from .version import version
+from .words import Parser, ShowVersion
 
 PROGRAM = "laguipy"
 COMMANDS = ("check", "figures", "index", "model", "graph", "show", "explain")
@@ -213,25 +214,6 @@ def told_version():
     return "\n".join(lines)
 
 
-class ShowVersion(argparse.Action):
-    def __init__(self, *words, **more):
-        super().__init__(*words, nargs=0, **more)
-
-    def __call__(self, *_):
-        emit(told_version() + "\n")
-        raise SystemExit(DONE)
-
-
-class Parser(argparse.ArgumentParser):
-    """Help goes where all output goes, so that what cannot be written is told; faults go where all others do."""
-
-    def print_help(self, file=None):
-        emit(self.format_help())
-
-    def error(self, message):
-        raise UsageError(f"{message}; `{self.prog} --help` has the usage")
-
-
 def add(commands, name, run, about, more=""):
     command = commands.add_parser(
         name,
@@ -241,7 +223,7 @@ def add(commands, name, run, about, more=""):
         formatter_class=argparse.RawDescriptionHelpFormatter,
     )
     command.add_argument("--json", action="store_true", help="the answer as JSON")
-    command.add_argument("--version", action=ShowVersion, help="the version, and what was proved")
+    command.add_argument("--version", action=ShowVersion, told=told_version, help="the version, and what was proved")
     command.set_defaults(run=run)
     return command
 
@@ -322,7 +304,7 @@ def parser():
         epilog=STATUSES,
         formatter_class=argparse.RawDescriptionHelpFormatter,
     )
-    whole.add_argument("--version", action=ShowVersion, help="the version, and what was proved")
+    whole.add_argument("--version", action=ShowVersion, told=told_version, help="the version, and what was proved")
     kept = {"metavar": "COMMAND", "dest": "command", "required": True, "parser_class": Parser}
     commands = whole.add_subparsers(prog=PROGRAM, **kept)
     add_check(commands)

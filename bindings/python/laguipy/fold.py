@@ -1,6 +1,4 @@
 """The tool that writes folders from text and prints them back, and needs nothing else: tools/fold.py."""
-import argparse
-
 from . import graphs, models
 from .errors import InputError
 from .files import load, load_text, of, save
@@ -8,6 +6,7 @@ from .folder import read_model, shape_of
 from .names import find_names, save_model
 from .output import DONE, emit, guarded, plain
 from .version import version
+from .words import Parser, ShowVersion
 
 HELP = f"""\
 Writes model and graph folders from text, and prints folders back as text.
@@ -89,12 +88,12 @@ def run_show(args):
 
 
 def arguments():
-    class Parser(argparse.ArgumentParser):
+    class Whole(Parser):
         def format_help(self):
             return HELP if self.prog == "fold.py" else super().format_help()
 
-    parser = Parser(prog="fold.py")
-    parser.add_argument("--version", action="version", version=f"fold.py {version()}")
+    parser = Whole(prog="fold.py")
+    parser.add_argument("--version", action=ShowVersion, told=lambda: f"fold.py {version()}")
     commands = parser.add_subparsers(required=True, metavar="model|graph|show", dest="command")
     model = commands.add_parser("model", help="text to a model folder")
     model.add_argument("text", metavar="IN.model")

@@ -568,5 +568,26 @@ class AtOnce(unittest.TestCase):
             self.assertEqual((one.communicate()[0], one.returncode), (expected, 0))
 
 
+class Fold(unittest.TestCase):
+    """The tool without a library: what it cannot write, and what it is not told, it says in a line."""
+
+    def fold(self, *words, **more):
+        tool = [sys.executable, "-B", os.path.join(ROOT, "tools", "fold.py")]
+        return subprocess.run([*tool, *words], stderr=subprocess.PIPE, check=False, **more)
+
+    def test_output(self):
+        for words in (("--help",), ("--version",), ("show", "--help"), ("show", os.path.join(PEDAL, "model.fold"))):
+            with open("/dev/full", "w", encoding="utf-8") as full:
+                came = self.fold(*words, stdout=full)
+            self.assertEqual((came.returncode, came.stderr.count(b"\n")), (3, 1), words)
+            self.assertIn(b"the output cannot be written", came.stderr)
+            self.assertEqual(self.fold(*words, stdout=subprocess.PIPE).returncode, 0, words)
+
+    def test_usage(self):
+        for words in ((), ("model",), ("zz",), ("show", "--zz")):
+            came = self.fold(*words, stdout=subprocess.PIPE)
+            self.assertEqual((came.returncode, came.stdout, came.stderr.count(b"\n")), (2, b"", 1), words)
+
+
 if __name__ == "__main__":
     unittest.main()
