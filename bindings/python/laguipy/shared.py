@@ -7,10 +7,10 @@ from .errors import InputError, UsageError, counted
 from .files import load_text
 from .folder import COVERED, read_graph, shape_of
 from .limits import NO_NODE
+from .series import shown
 
 LEAST, MOST = -32_768, 32_767  # what a value of a state can be
 DIGITS = 5  # of such a value, but for zeros in front
-SHOWN = 40  # characters of a wrong word that are repeated
 
 
 class Twin(NamedTuple):
@@ -34,11 +34,11 @@ class Found(NamedTuple):
 def value_of(word, what):
     """A value of a state; what is too large is told, of any length."""
     if not re.fullmatch("[+-]?[0-9]+", word):
-        raise UsageError(f"{what} is a whole number, and this is {word[:SHOWN]!r}")
+        raise UsageError(f"{what} is a whole number, and this is {shown(word)}")
     digits = word.lstrip("+-").lstrip("0")
     value = int(word) if len(digits) <= DIGITS else MOST + 1
     if not LEAST <= value <= MOST:
-        raise UsageError(f"{what} is {LEAST} to {MOST}, and this is {word[:SHOWN]}")
+        raise UsageError(f"{what} is {LEAST} to {MOST}, and this is {shown(word)}")
     return value
 
 
@@ -49,21 +49,21 @@ def state_of(text, names):
     if not any("=" in word for word in words):
         if len(words) != len(names):
             wanted = counted(len(names), "value")
-            raise UsageError(f"a state has {wanted} ({' '.join(names)}), and {text[:SHOWN]!r} has {len(words)}")
+            raise UsageError(f"a state has {wanted} ({' '.join(names)}), and {shown(text)} has {len(words)}")
         return [value_of(word, f"the value of {name}") for word, name in zip(words, names)]
     found: Dict[str, int] = {}
     for word in words:
         name, equals, value = word.partition("=")
         if not equals:
-            raise UsageError(f"{word[:SHOWN]!r} has no '=': write each variable with its value, as in a=0, or none")
+            raise UsageError(f"{shown(word)} has no '=': write each variable with its value, as in a=0, or none")
         if name not in names:
-            raise UsageError(f"there is no variable {name[:SHOWN]!r}: the names are {', '.join(names)}")
+            raise UsageError(f"there is no variable {shown(name)}: the names are {', '.join(names)}")
         if name in found:
-            raise UsageError(f"{name!r} stands twice in {text[:SHOWN]!r}")
+            raise UsageError(f"{name!r} stands twice in {shown(text)}")
         found[name] = value_of(value, f"the value of {name}")
     missing = [name for name in names if name not in found]
     if missing:
-        raise UsageError(f"{text[:SHOWN]!r} says nothing of {', '.join(missing)}")
+        raise UsageError(f"{shown(text)} says nothing of {', '.join(missing)}")
     return [found[name] for name in names]
 
 

@@ -45,7 +45,7 @@ class Index(Room):
             "a=3,1": "'1' has no '='",
             "1,2,3": "a state has 2 values (a d), and '1,2,3' has 3",
             "a=y,d=0": "the value of a is a whole number, and this is 'y'",
-            "a=32768,d=0": "the value of a is -32768 to 32767, and this is 32768",
+            "a=32768,d=0": "the value of a is -32768 to 32767, and this is '32768'",
             "a=0,d=-" + "9" * 9_999: "the value of d is -32768 to 32767",
         }
         for state, told in wrong.items():

@@ -51,14 +51,15 @@ module _ {A : Type 0} where
   pub fill-again : (n : ℕ) (f g : ℕ → A) (d : List A) → fill n g (fill n f d) ≡ fill n g d
   fill-again n f g d = ap (λ (t : List A). tab n g ++ t) (drop-filled n f d)
 
-  -- A row of a's, read as a past its end, that is filled with a function which is a from n on: it is the function everywhere.
-  still : (a : A) (size k : ℕ) → getD (replicate size a) k a ≡ a
-  still a size k = go (decLt k size)
+  -- A row of a's, read as a past its end, is a everywhere.
+  pub getD-still : (a : A) (size k : ℕ) → getD (replicate size a) k a ≡ a
+  getD-still a size k = go (decLt k size)
     where
       go : Dec (k < size) → getD (replicate size a) k a ≡ a
       go (yes l) = getD-replicate size k a a l
       go (no h) = List·getD-eq-default (replicate size a) a {n = k} (omega (arith, length-replicate {A = A} size a))
 
+  -- Filled with a function which is a from n on, it is the function everywhere.
   pub getD-everywhere : (a : A) (n size : ℕ) (f : ℕ → A) → ((k : ℕ) → n ≤ k → f k ≡ a) → (k : ℕ) → getD (fill n f (replicate size a)) k a ≡ f k
   getD-everywhere a n size f h k = go (decLt k n)
     where
@@ -66,7 +67,7 @@ module _ {A : Type 0} where
       go (yes l) = getD-filled a n f (replicate size a) k l
       go (no g) =
           let l : n ≤ k = omega arith in
-          getD-kept a n f (replicate size a) k l ∙ still a size k ∙ sym (h k l)
+          getD-kept a n f (replicate size a) k l ∙ getD-still a size k ∙ sym (h k l)
 
 -- ---- the three facts of a loop that fills a row, `while i < n { row[i] = f(i); i += 1; }`, whose invariant is `Filled f n row₀ row i`: of n places the first i hold f, and the others are as they were
 pub record Filled {A : Type 0} (f : ℕ → A) (n : ℕ) (row₀ row : List A) (i : ℕ) : Type 0 where

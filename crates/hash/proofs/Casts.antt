@@ -1,13 +1,13 @@
 -- A 16-bit number as the code casts it, and its 2-byte field.
 -- Assumes nothing.
-use Prim.Native.Nat.{ℕ, suc, _+_, _-_, _<_, _≤_, _^_}
+use Prim.Native.Nat.{suc, _<_, _^_}
 use mathlib.Core.Path.{_≡_, refl, sym, ap, _∙_, subst}
 use mathlib.Core.Bool.{true, false, false≢true}
 use native.Mathlib.Omega.{arith}
 use borrow.Author.Tests.{le-ltb, ltb-true}
 use lib.Dec.{T}
 use lib.IntN.{ℤ, pos, negsuc, natAbs, _+ℤ_}
-use lib.Signed.{ltZ, mag, nonNeg}
+use lib.Signed.{ltZ, nonNeg}
 use mir.Syntax.{w16, w64}
 use mir.Val.{Fits, SFits, toZ, ofZ}
 use mir.Facts.{sfits-widen}

@@ -22,8 +22,7 @@ use Rattle.model.specs.Model.{Model}
 use Rattle.model.specs.Valid.{Valid}
 use Rattle.graph.specs.Limits.{slotCount}
 use Rattle.graph.specs.Simulation.{Simulation}
-use Rattle.index.specs.Index.{states, shared, indexSlots, indexFits, indexRows, IndexRight, slotsOf, answersOf, listingOf, answerOf}
-use Rattle.index.specs.declared.IndexAnswer.{IndexAnswer}
+use Rattle.index.specs.Index.{states, shared, indexFits, indexRows, IndexRight, slotsOf, answersOf, listingOf, answerOf}
 use Rattle.index.specs.declared.IndexAnswer.the-variants as Answer
 
 head-holds : {r : Row} {rs : List Row} → AllHold (r ∷ rs) → (k : ℕ) → k < r .count → r .ok k ≡ true

@@ -1,23 +1,21 @@
 -- Which nodes are listed, by marks at the lowest node of each label.
 -- Assumes nothing.
-use Prim.Native.Nat.{ℕ, zero, suc, _+_, _≤_, _<_, zero-le}
-use mathlib.Core.Path.{_≡_, refl, sym, ap, _∙_, subst}
-use mathlib.Core.Bool.{Bool, true, false, not, _&&_, and-true, and-false, false≢true}
-use mathlib.Core.Logic.{_⊎_, inl, inr, ⊎-elim}
+use Prim.Native.Nat.{ℕ, _+_, _≤_, _<_}
+use mathlib.Core.Path.{_≡_, refl, sym, ap, _∙_}
+use mathlib.Core.Bool.{Bool, true, false, not, _&&_, and-true, and-false}
 use mathlib.Core.List.{List}
-use native.Mathlib.Nat.{eq-or-lt-of-le, le-of-suc-le-suc}
 use native.Mathlib.Numerals.{add-one}
 use native.Mathlib.Omega.{arith}
 use borrow.Author.Tests.{eq-eqb, ne-eqb, eqb-true, eqb-false, ltb-true, ltb-false, lt-ltb, not-false, not-true}
-use lib.ListN.{length, getD, set, replicate, length-set, length-replicate}
+use lib.ListN.{getD, set, replicate, length-set, length-replicate}
 use lib.Seq.{getD-set-same, getD-set-other}
 use lib.Dec.{ltb, eqb}
 use lib.IntN.{ℤ}
-use Rattle.folder.specs.Pick.{pick}
-use Rattle.folder.specs.Scan.{firstBad, all}
+use Rattle.folder.specs.Scan.{firstBad}
 use Rattle.folder.proofs.Decides.{everywhere, unless, all-suc}
 use Rattle.folder.proofs.ScanLaws.{found, stops-by}
-use Rattle.slots.specs.Slots.{noNode, sameState, lowest, isNew}
+use Rattle.folder.proofs.FillLaws.{getD-still}
+use Rattle.slots.specs.Slots.{sameState, lowest, isNew}
 use Rattle.slots.specs.Nodes.{labelIn}
 use Rattle.slots.proofs.Rounds.{same-states}
 use Rattle.index.specs.Twins.{unseen, isListed}
@@ -137,11 +135,6 @@ module _ (vars : ℕ) (nb : List ℕ) {n : ℕ} {row : List ℕ} (h : Seen vars 
       seen-again = record { long = h .long; marks = λ q l new. again-marks q l new (eqb q r) refl }
 
 -- ---- no node was seen
-zeros : (k r : ℕ) → _≡_ {A = ℕ} (getD (replicate k 0) r 0) 0
-zeros zero r = refl
-zeros (suc k) zero = refl
-zeros (suc k) (suc r) = zeros k r
-
 pub seen-none : (vars : ℕ) (nb : List ℕ) (k : ℕ) → nodesIn vars nb ≤ k → Seen vars nb 0 (replicate k 0)
 unfolding unseen firstBad
-seen-none vars nb k l = record { long = rw (length-replicate {A = ℕ} k 0) l; marks = λ r m new. eq-eqb _ _ (zeros k r) }
+seen-none vars nb k l = record { long = rw (length-replicate {A = ℕ} k 0) l; marks = λ r m new. eq-eqb _ _ (getD-still {A = ℕ} 0 k r) }

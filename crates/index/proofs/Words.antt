@@ -1,16 +1,16 @@
 -- What the listing and the slots of an accepted graph are, in words.
 -- Assumes nothing.
 use Prim.Native.Nat.{ℕ, _<_}
-use mathlib.Core.Path.{_≡_, refl, sym, ap, _∙_}
+use mathlib.Core.Path.{_≡_, refl, sym, _∙_}
 use mathlib.Core.Bool.{Bool, true, false, not, _&&_, false≢true}
 use mathlib.Core.Logic.{_⊎_, inl, inr, _↔_}
 use mathlib.Core.List.{List}
 use native.Mathlib.Nat.{eq-or-lt-of-le}
-use borrow.Author.Tests.{eq-eqb, ne-eqb, not-true, not-false}
+use borrow.Author.Tests.{eq-eqb, not-true, not-false}
 use native.Mathlib.Omega.{arith}
 use lib.ListN.{getD}
 use lib.IntN.{ℤ}
-use Rattle.folder.specs.Scan.{firstBad, all}
+use Rattle.folder.specs.Scan.{firstBad}
 use Rattle.folder.proofs.Decides.{and-both, both-and}
 use Rattle.folder.proofs.ScanLaws.{found, all-true}
 use Rattle.model.specs.Model.{modelOf}

@@ -1,6 +1,6 @@
 -- 2-byte fields as signed values; a concrete label by its values.
 -- Assumes nothing.
-use Prim.Native.Nat.{ℕ, suc, _+_, _-_, _<_, _≤_, _^_}
+use Prim.Native.Nat.{ℕ, _+_, _-_, _<_, _^_}
 use mathlib.Core.Path.{_≡_, refl, sym, ap, _∙_}
 use mathlib.Core.Bool.{Bool, true, false}
 use mathlib.Core.List.{List}
@@ -16,7 +16,6 @@ use mir.Val.{SFits}
 use Rattle.folder.specs.Scan.{all}
 use Rattle.folder.specs.Fields.{fieldLimit, halfLimit, signed16}
 use Rattle.folder.specs.Contents.{signedField}
-use Rattle.folder.specs.Tab.{tab}
 use Rattle.folder.proofs.Decides.{same, same-test, reworded, everywhere}
 use Rattle.folder.proofs.TabLaws.{length-tab, getD-tab}
 use Rattle.whole.specs.Order.{eqZ}

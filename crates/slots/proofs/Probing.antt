@@ -1,7 +1,7 @@
 -- Linear probing is right: while there are fewer nodes than slots a node that enters finds a free slot, and a look-up of a
 -- label stops at the lowest node that has it, or at a free slot if none has it.
 -- Assumes nothing.
-use Prim.Native.Nat.{ℕ, zero, suc, _+_, _%_, _≤_, _<_, zero-le}
+use Prim.Native.Nat.{ℕ, zero, suc, _+_, _%_, _≤_, _<_}
 use mathlib.Core.Path.{_≡_, refl, sym, ap, _∙_, subst}
 use mathlib.Core.Bool.{Bool, true, false, not, _&&_, false≢true}
 use mathlib.Core.Logic.{_⊎_, inl, inr, ⊎-elim}
@@ -16,13 +16,12 @@ use lib.Dec.{ltb, eqb}
 use lib.IntN.{ℤ}
 use Rattle.folder.specs.Pick.{pick}
 use Rattle.folder.specs.Scan.{firstBad, all}
-use Rattle.folder.specs.Tab.{tab}
 use Rattle.folder.proofs.Decides.{everywhere, unless}
-use Rattle.folder.proofs.ScanLaws.{found, all-found, found-at, stops-by, first-same}
+use Rattle.folder.proofs.ScanLaws.{found, stops-by, first-same}
 use Rattle.folder.proofs.TabLaws.{length-tab, getD-tab}
 use Rattle.hash.specs.Hash.{hashOf}
-use Rattle.slots.specs.Slots.{noNode, sameState, isFree, slotFrom, freeFrom, enter, firstWith, lowest, isNew, slotsAfter, passOn, stopAt}
-use Rattle.slots.proofs.Rounds.{same-states, Away, away, fullIn, full-set, FreeIn, free-there, full-none}
+use Rattle.slots.specs.Slots.{noNode, sameState, isFree, slotFrom, freeFrom, firstWith, lowest, isNew, slotsAfter, passOn, stopAt}
+use Rattle.slots.proofs.Rounds.{same-states, Away, away, fullIn, full-set, free-there, full-none}
 
 -- A slot holds a node.
 abbrev Full : List ℕ → ℕ → Type 0

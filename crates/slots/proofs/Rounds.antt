@@ -1,24 +1,19 @@
 -- Two states that are one; slots round the end; counting full slots.
 -- Assumes nothing.
 use Prim.Native.Nat.{ℕ, zero, suc, _+_, _-_, _%_, _≤_, _<_, zero-le}
-use mathlib.Core.Path.{_≡_, refl, sym, ap, _∙_, subst}
-use mathlib.Core.Bool.{Bool, true, false, not, false≢true}
-use mathlib.Core.Logic.{_⊎_, inl, inr, ⊎-elim}
+use mathlib.Core.Path.{_≡_, refl, sym, ap, _∙_}
+use mathlib.Core.Bool.{Bool, true, false, false≢true}
 use mathlib.Core.List.{List, [], _∷_, _++_}
-use native.Mathlib.Nat.{mod-lt, mod-eq-of-lt, add-mod-right, mod-add-mod, mod-self, not-suc-le-zero, eq-or-lt-of-le}
+use native.Mathlib.Nat.{mod-lt, mod-eq-of-lt, add-mod-right, mod-add-mod, mod-self, not-suc-le-zero}
 use native.Mathlib.Decide.{decLe}
-use native.Mathlib.Numerals.{add-one}
 use native.Mathlib.Omega.{arith}
-use borrow.Author.Tests.{eq-eqb, ne-eqb, eqb-true, eqb-false}
+use borrow.Author.Tests.{eqb-true}
 use lib.ListN.{length, getD, set}
 use lib.Dec.{eqb}
 use lib.IntN.{ℤ}
 use Rattle.folder.specs.Pick.{pick}
-use Rattle.folder.specs.Scan.{firstBad}
 use Rattle.folder.specs.Tab.{tab}
-use Rattle.folder.proofs.Decides.{Decides, reworded, same-test, _∧also_}
-use Rattle.folder.proofs.ScanLaws.{found, found-at, all-found}
-use Rattle.whole.specs.Order.{eqZ}
+use Rattle.folder.proofs.Decides.{Decides, reworded, _∧also_}
 use Rattle.whole.proofs.Order.{equal-decided}
 use Rattle.slots.specs.Slots.{noNode, sameState}
 

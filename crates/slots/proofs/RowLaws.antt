@@ -2,24 +2,20 @@
 -- Assumes nothing.
 use Prim.Native.Nat.{ℕ, _+_, _/_, _%_, _≤_, _<_, zero-le}
 use mathlib.Core.Path.{_≡_, refl, sym, ap, _∙_}
-use mathlib.Core.Bool.{Bool, true, false, not, _&&_}
-use mathlib.Core.List.{List, _++_, append-nil}
+use mathlib.Core.Bool.{Bool, true, false, not}
+use mathlib.Core.List.{List}
 use native.Mathlib.Nat.{mod-mod, add-zero}
 use native.Mathlib.Omega.{arith}
-use borrow.Author.Tests.{lt-ltb, le-ltb, ltb-true, ltb-false, eqb-true, eqb-false, eq-eqb, ne-eqb, not-true}
-use lib.ListN.{length, getD, set, drop, take}
-use lib.Seq.{drop-length, take-at}
+use borrow.Author.Tests.{ltb-true, ltb-false, eqb-true, eqb-false, eq-eqb, ne-eqb, not-true}
+use lib.ListN.{length, getD, set}
 use lib.Dec.{ltb, eqb}
-use lib.IntN.{ℤ, pos}
+use lib.IntN.{ℤ}
 use Rattle.folder.specs.Pick.{pick}
-use Rattle.folder.specs.Scan.{firstBad}
 use Rattle.folder.specs.Fields.{fieldLimit}
-use Rattle.folder.specs.Contents.{signedField}
-use Rattle.folder.specs.Tab.{tab, fill}
+use Rattle.folder.specs.Tab.{tab}
 use Rattle.folder.proofs.Decides.{and-both}
 use Rattle.folder.proofs.ScanLaws.{Scanned, scan-start, scan-next, scan-found, scan-over}
 use Rattle.folder.proofs.TabLaws.{length-tab, getD-tab, getD-within}
-use Rattle.graph.specs.Simulation.{nodeSize}
 use Rattle.hash.specs.Hash.{hashOf}
 use Rattle.slots.specs.Slots.{noNode, sameState, isFree, slotFrom, slotsAfter, passOn, stopAt}
 use Rattle.slots.specs.Nodes.{labelIn, highOf, Hashed, otherHash, passes, stopIn, entering}

@@ -33,6 +33,7 @@ pub record Hashed (vars : ℕ) (nb hashes : List ℕ) : Type 0 where
   pub few : length hashes ≤ noNode
   pub is : (n : ℕ) → n < length hashes → getD hashes n 0 ≡ highOf (labelIn vars nb n)
 
+-- Node n is known to have another label than one with the half h.
 abbrev pub otherHash : List ℕ → ℕ → ℕ → Bool
 otherHash hashes n h = ltb n (length hashes) && not (eqb (getD hashes n 0) h)
 
