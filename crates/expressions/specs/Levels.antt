@@ -12,7 +12,7 @@ use Rattle.expressions.specs.declared.TruthForm.{TruthForm}
 use Rattle.expressions.specs.declared.TruthForm.the-variants.{Compare, Not, Joined, Always, NoTruth}
 
 -- An interpretation: what each operation makes of its parts, a number being an N and a truth a T. Meaning, reading,
--- range and depth are four of them.
+-- range, depth and the variables mentioned are five of them.
 pub record Interpretation (N T : Type 0) : Type 0 where
   pub constant : ℤ → N
   pub variable : ℕ → N

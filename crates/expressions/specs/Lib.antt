@@ -6,6 +6,7 @@ pub mod Levels
 pub mod Operations
 pub mod Meaning
 pub mod Reading
+pub mod Mentions
 pub mod Ranges
 pub mod Rules
 pub mod Right

@@ -8,6 +8,10 @@ mostVariables = 16
 abbrev pub mostExpressions : ℕ
 mostExpressions = 512
 
+-- What stands for a variable where none is concerned.
+abbrev pub noVariable : ℕ
+noVariable = 65535
+
 -- The tracked set that has every variable.
 abbrev pub allTracked : ℕ
 allTracked = 2 ^ mostVariables - 1

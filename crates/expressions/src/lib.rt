@@ -11,6 +11,9 @@ pub const MOST_VARIABLES: usize = 16;
 
 pub const MOST_EXPRESSIONS: usize = 512;
 
+// What stands for a variable where none is concerned.
+pub const NO_VARIABLE: usize = 65535;
+
 pub const DEEPEST: usize = 12;
 
 pub const LOWEST: i64 = -1000000;
@@ -67,6 +70,18 @@ pub enum Truth {
     True,
     False,
     Unknown,
+}
+
+// The same, and where it is unknown the lowest variable that the label would have to track besides (document 02, 2.2).
+pub enum NumberReading {
+    Known(i64),
+    Lacks(usize),
+}
+
+pub enum TruthReading {
+    True,
+    False,
+    Lacks(usize),
 }
 
 pub struct Range {

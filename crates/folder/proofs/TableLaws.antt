@@ -12,6 +12,7 @@ use native.Mathlib.Omega.{arith}
 use Rattle.folder.specs.Scan.{firstBad}
 use Rattle.folder.specs.Table.{Row, Rule, single, refused, allRules, firstBroken, outcome, Holds, AllHold, none, more, BrokenAt, Broken, BrokenRule}
 use Rattle.folder.specs.declared.Refusal.{Refusal}
+use Rattle.folder.specs.declared.Cause.{Cause}
 use Rattle.folder.specs.declared.Outcome.{Outcome}
 use Rattle.folder.specs.declared.Outcome.the-variants.{Accepted, Refused}
 use Rattle.folder.proofs.Decides.{Decides}
@@ -180,10 +181,10 @@ refused-then xs ys f e = broken-refused (broken-then ys (refused-broken xs f e))
 rule-by : (r : Rule) (rs : List Rule) (t : Bool) → r .holds ≡ t → (allRules rs ≡ false → BrokenRule rs (firstBroken rs)) → allRules (r ∷ rs) ≡ false
     → BrokenRule (r ∷ rs) (firstBroken (r ∷ rs))
 unfolding allRules firstBroken
-rule-by r rs true e rest h = subst (λ (n : ℕ). BrokenRule (r ∷ rs) n) (rw e refl) (BrokenRule.later e (rest (rw e at h)))
-rule-by r rs false e rest h = subst (λ (n : ℕ). BrokenRule (r ∷ rs) n) (rw e refl) (BrokenRule.here e)
+rule-by r rs true e rest h = subst (λ (c : Cause). BrokenRule (r ∷ rs) c) (rw e refl) (BrokenRule.later e (rest (rw e at h)))
+rule-by r rs false e rest h = subst (λ (c : Cause). BrokenRule (r ∷ rs) c) (rw e refl) (BrokenRule.here e)
 
--- The number of a group's refusal is that of the first broken rule.
+-- The number and the second place of a group's refusal are those of the first broken rule.
 pub first-broken : (rs : List Rule) → allRules rs ≡ false → BrokenRule rs (firstBroken rs)
 unfolding allRules
 first-broken [] h = absurd (false≢true (sym h))

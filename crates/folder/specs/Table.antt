@@ -9,24 +9,34 @@ use lib.Dec.{ltb}
 use Rattle.folder.specs.Pick.{pick}
 use Rattle.folder.specs.Scan.{firstBad}
 use Rattle.folder.specs.declared.Refusal.{Refusal}
+use Rattle.folder.specs.declared.Cause.{Cause}
 use Rattle.folder.specs.declared.Outcome.{Outcome}
 use Rattle.folder.specs.declared.Outcome.the-variants.{Accepted, Refused}
 
--- The refusal with this number and place.
+-- The refusal with this number and these two places; the second is 0 (document 02, 2.2: for all but 19 and 21).
+abbrev pub refusalAt : ℕ → ℕ → ℕ → Refusal
+refusalAt n p s = record { number = n; place = p; second = s }
+
 abbrev pub refusal : ℕ → ℕ → Refusal
-refusal n p = record { number = n; place = p }
+refusal n p = refusalAt n p 0
 
 abbrev pub refused : ℕ → ℕ → Outcome
 refused n p = Refused (refusal n p)
 
--- Document 01's number of an outcome, and what is returned with it. Acceptance has none: 0.
+-- Document 01's number of an outcome, and the two places returned with it. Acceptance has none: 0.
 abbrev pub outcomeNumber : Outcome → ℕ
 outcomeNumber Accepted = 0
 outcomeNumber (Refused r) = r .number
 
-abbrev pub outcomePlace : Outcome → ℕ
-outcomePlace Accepted = 0
-outcomePlace (Refused r) = r .place
+abbrev pub places : Refusal → List ℕ
+places r = r .place ∷ r .second ∷ []
+
+abbrev pub noPlaces : List ℕ
+noPlaces = 0 ∷ 0 ∷ []
+
+abbrev pub outcomePlaces : Outcome → List ℕ
+outcomePlaces Accepted = noPlaces
+outcomePlaces (Refused r) = places r
 
 -- A row: places 0 to count − 1, the test of each, and the refusal that a broken one gives.
 pub record Row : Type 0 where
@@ -41,25 +51,39 @@ row number count ok = record { count = count; ok = ok; gives = refusal number }
 abbrev pub single : ℕ → ℕ → Bool → Row
 single number place ok = record { count = 1; ok = λ _. ok; gives = λ _. refusal number place }
 
--- Rows whose rules are finished for one place before the next: the rules of a place, each with its number, in order.
+-- Rows whose rules are finished for one place before the next: the rules of a place, each with its number, in order, and
+-- with the second place that it returns if it is broken.
 pub record Rule : Type 0 where
   pub number : ℕ
   pub holds : Bool
+  pub second : ℕ
+
+abbrev pub ruleAt : ℕ → Bool → ℕ → Rule
+ruleAt n b s = record { number = n; holds = b; second = s }
 
 abbrev pub rule : ℕ → Bool → Rule
-rule n b = record { number = n; holds = b }
+rule n b = ruleAt n b 0
 
 unfoldable pub allRules : List Rule → Bool
 allRules [] = true
 allRules (r ∷ rs) = r .holds && allRules rs
 
--- The number of the first broken one; 0 if none is.
-unfoldable pub firstBroken : List Rule → ℕ
-firstBroken [] = 0
-firstBroken (r ∷ rs) = pick (r .holds) (firstBroken rs) (r .number)
+abbrev pub cause : ℕ → ℕ → Cause
+cause n s = record { number = n; second = s }
+
+-- The first broken one, by its number and second place; 0 and 0 if none is.
+unfoldable pub firstBroken : List Rule → Cause
+firstBroken [] = cause 0 0
+firstBroken (r ∷ rs) = pick (r .holds) (firstBroken rs) (cause (r .number) (r .second))
+
+abbrev pub refusalBy : Cause → ℕ → Refusal
+refusalBy c p = refusalAt (c .number) p (c .second)
+
+abbrev pub refusedBy : Cause → ℕ → Outcome
+refusedBy c p = Refused (refusalBy c p)
 
 abbrev pub group : ℕ → (ℕ → List Rule) → Row
-group count rules = record { count = count; ok = λ p. allRules (rules p); gives = λ p. refusal (firstBroken (rules p)) p }
+group count rules = record { count = count; ok = λ p. allRules (rules p); gives = λ p. refusalBy (firstBroken (rules p)) p }
 
 abbrev pub rowAt : Row → ℕ → Outcome → Outcome
 rowAt r p rest = pick (ltb p (r .count)) (Refused (r .gives p)) rest
@@ -92,7 +116,7 @@ pub data Broken : List Row → Refusal → Type 0 where
   here : {r : Row} {rs : List Row} {f : Refusal} → BrokenAt r f → Broken (r ∷ rs) f
   later : {r : Row} {rs : List Row} {f : Refusal} → Holds r → Broken rs f → Broken (r ∷ rs) f
 
--- Of a place's rules, the first broken one has the number n.
-pub data BrokenRule : List Rule → ℕ → Type 0 where
-  here : {r : Rule} {rs : List Rule} → r .holds ≡ false → BrokenRule (r ∷ rs) (r .number)
-  later : {r : Rule} {rs : List Rule} {n : ℕ} → r .holds ≡ true → BrokenRule rs n → BrokenRule (r ∷ rs) n
+-- Of a place's rules, the first broken one has this number and second place.
+pub data BrokenRule : List Rule → Cause → Type 0 where
+  here : {r : Rule} {rs : List Rule} → r .holds ≡ false → BrokenRule (r ∷ rs) (cause (r .number) (r .second))
+  later : {r : Rule} {rs : List Rule} {c : Cause} → r .holds ≡ true → BrokenRule rs c → BrokenRule (r ∷ rs) c

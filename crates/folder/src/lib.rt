@@ -5,7 +5,7 @@ ghost use lib.ListN.{getD, length};
 ghost use Rattle.folder.specs.Fields.{fieldLimit, field4Limit, u16, u32, signed16};
 ghost use Rattle.folder.specs.Contents.{startOf, lengthOf, dueStart, entryOk, body, countOf, field, field4};
 ghost use Rattle.folder.specs.Scan.{firstBad};
-ghost use Rattle.folder.specs.Table.{refused};
+ghost use Rattle.folder.specs.Table.{refused, refusedBy};
 
 // What a field of 2 bytes stays below.
 pub const FIELD_LIMIT: usize = 65536;
@@ -15,10 +15,18 @@ const HALF_LIMIT: usize = FIELD_LIMIT / 2;
 
 pub const SIGNED_SPAN: i64 = FIELD_LIMIT as i64;
 
-// A refusal: its number in document 01's table, and the place that the table returns with it.
+// A refusal: its number in document 01's table, and the two places that the table returns with it. The second is 0 but for
+// the rules that say which variable is concerned.
 pub struct Refusal {
     pub number: usize,
     pub place: usize,
+    pub second: usize,
+}
+
+// The first broken rule of a place: its number, and the second place that goes with it. None is broken: 0 and 0.
+pub struct Cause {
+    pub number: usize,
+    pub second: usize,
 }
 
 // What a check answers.
@@ -30,7 +38,21 @@ pub enum Outcome {
 pub fn refuse(number: usize, place: usize) -> Outcome
     ensures { λ r. ⌜ r ≡ refused number place ⌝ }
 {
-    Outcome::Refused(Refusal { number, place })
+    Outcome::Refused(Refusal {
+        number,
+        place,
+        second: 0,
+    })
+}
+
+pub fn refuse_by(cause: Cause, place: usize) -> Outcome
+    ensures { λ r. ⌜ r ≡ refusedBy cause place ⌝ }
+{
+    Outcome::Refused(Refusal {
+        number: cause.number,
+        place,
+        second: cause.second,
+    })
 }
 
 pub fn byte_at(s: &[u8], k: usize) -> usize

@@ -6,8 +6,10 @@ use mathlib.Core.Bool.{Bool, true}
 use Rattle.folder.specs.Tab.{tab}
 use Rattle.expressions.specs.Meaning.{State, valueOf}
 use Rattle.expressions.specs.Reading.{hasBit, lookIn, readNumber, readTruth}
+use Rattle.expressions.specs.Mentions.{truthReading}
 use Rattle.expressions.specs.declared.Number.{Number}
 use Rattle.expressions.specs.declared.Truth.{Truth}
+use Rattle.expressions.specs.declared.TruthReading.{TruthReading}
 use Rattle.model.specs.Model.{Model}
 use Rattle.model.specs.Chances.{InRange}
 use Rattle.graph.specs.Simulation.{Simulation}
@@ -31,6 +33,10 @@ module _ (M : Model) (G : Simulation) where
 
   abbrev pub truthOf : ℕ → ℕ → Truth
   truthOf n e = readTruth (M .entries) (look n) e
+
+  -- And where it reads unknown, with the variable that it lacks.
+  abbrev pub readingOf : ℕ → ℕ → TruthReading
+  readingOf n e = truthReading (M .entries) (M .variables) (G .tracked n) (tab (M .variables) (G .label n)) e
 
   -- The label of node n contains the states that agree with it on the tracked variables.
   pub record Contains (n : ℕ) (s : State) : Type 0 where

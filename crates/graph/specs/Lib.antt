@@ -2,6 +2,7 @@ pub mod Limits
 pub mod Simulation
 pub mod Labels
 pub mod Rules
+pub mod Seconds
 pub mod Table
 pub mod Figures
 pub mod Pedal

@@ -6,13 +6,14 @@ use lib.Dec.{eqb}
 use Rattle.mdp.specs.Sums.{sum}
 use Rattle.folder.specs.Pick.{pick}
 use Rattle.folder.specs.Contents.{entryOk}
-use Rattle.folder.specs.Table.{Row, Rule, row, rule, single, group, outcome}
+use Rattle.folder.specs.Table.{Row, Rule, places, noPlaces, row, rule, ruleAt, single, group, outcome}
 use Rattle.folder.specs.declared.Outcome.{Outcome}
 use Rattle.folder.specs.declared.Outcome.the-variants as O
 use Rattle.model.specs.Model.{Model, modelOf}
 use Rattle.model.specs.Table.{modelRows}
 use Rattle.graph.specs.Simulation.{Simulation, bodies, simulationOf}
 use Rattle.graph.specs.Rules.{bytesFit, nodesFit, nodeFits, edgesFit, rootFits, A1, A2, B1, B2, C3, C1, C2, valueRule}
+use Rattle.graph.specs.Seconds.{second19, second21}
 use Rattle.graph.specs.declared.Summary.{Summary}
 use Rattle.graph.specs.declared.GraphAnswer.{GraphAnswer}
 use Rattle.graph.specs.declared.GraphAnswer.the-variants.{Accepted, Refused}
@@ -33,9 +34,9 @@ firstRows M g = folderRows M g ++ contentRows M (simulationOf M g)
 abbrev pub nodeRules : Model → Simulation → ℕ → List Rule
 nodeRules M G n =
     rule 18 (A1 M G n)
-    ∷ rule 19 (A2 M G n)
+    ∷ ruleAt 19 (A2 M G n) (second19 M G n)
     ∷ rule 20 (B1 M G n)
-    ∷ rule 21 (B2 M G n)
+    ∷ ruleAt 21 (B2 M G n) (second21 M G n)
     ∷ rule 22 (C3 M G n)
     ∷ rule 23 (C1 M G n)
     ∷ rule 24 (C2 M G n)
@@ -73,14 +74,14 @@ answerOf (O.Refused f) s = Refused f
 unfoldable pub graphAnswer : List ℕ → List ℕ → GraphAnswer
 graphAnswer m g = answerOf (graphOutcome m g) (summary (simulationOf (modelOf m) g))
 
--- Document 01's number of a graph check's answer, and what is returned with it. Acceptance has none: 0.
+-- Document 01's number of a graph check's answer, and the two places returned with it. Acceptance has none: 0.
 abbrev pub answerNumber : GraphAnswer → ℕ
 answerNumber (Accepted s) = 0
 answerNumber (Refused f) = f .number
 
-abbrev pub answerPlace : GraphAnswer → ℕ
-answerPlace (Accepted s) = 0
-answerPlace (Refused f) = f .place
+abbrev pub answerPlaces : GraphAnswer → List ℕ
+answerPlaces (Accepted s) = noPlaces
+answerPlaces (Refused f) = places f
 
 -- The root value and the count of nodes of each kind, by the kind's number. A refusal has none: 0.
 abbrev pub answerValues : GraphAnswer → List ℕ
