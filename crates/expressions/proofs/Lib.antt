@@ -8,3 +8,5 @@ pub mod Levels
 pub mod Whole
 pub mod Small
 pub mod Bits
+pub mod Mentions
+pub mod Missing
