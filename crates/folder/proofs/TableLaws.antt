@@ -10,7 +10,7 @@ use borrow.Author.Tests.{lt-ltb, le-ltb}
 use native.Mathlib.Nat.{eq-or-lt-of-le, le-refl}
 use native.Mathlib.Omega.{arith}
 use Rattle.folder.specs.Scan.{firstBad}
-use Rattle.folder.specs.Table.{Row, Rule, single, refused, allRules, firstBroken, outcome, Holds, AllHold, none, more, BrokenAt, Broken, BrokenRule}
+use Rattle.folder.specs.Table.{Row, Rule, single, refused, cause, allRules, firstBroken, outcome, Holds, AllHold, none, more, BrokenAt, Broken, BrokenRule}
 use Rattle.folder.specs.declared.Refusal.{Refusal}
 use Rattle.folder.specs.declared.Cause.{Cause}
 use Rattle.folder.specs.declared.Outcome.{Outcome}
@@ -189,3 +189,26 @@ pub first-broken : (rs : List Rule) → allRules rs ≡ false → BrokenRule rs 
 unfolding allRules
 first-broken [] h = absurd (false≢true (sym h))
 first-broken (r ∷ rs) h = rule-by r rs (r .holds) refl (first-broken rs) h
+
+-- ---- what is so of each refusal that a row may give is so of the one that a table gives
+pub data Gives (P : Refusal → Type 0) : List Row → Type 0 where
+  over : Gives P []
+  each : {r : Row} {rs : List Row} → ((p : ℕ) → r .ok p ≡ false → P (r .gives p)) → Gives P rs → Gives P (r ∷ rs)
+
+pub given : {P : Refusal → Type 0} {rs : List Row} {f : Refusal} → Gives P rs → Broken rs f → P f
+given {P} (Gives.each h t) (Broken.here b) = subst P (b .gives) (h (b .at) (b .broken))
+given (Gives.each h t) (Broken.later k b) = given t b
+
+pub data RulesGive (P : Cause → Type 0) : List Rule → Type 0 where
+  rules-end : RulesGive P []
+  each-rule : {r : Rule} {rs : List Rule} → (r .holds ≡ false → P (cause (r .number) (r .second))) → RulesGive P rs → RulesGive P (r ∷ rs)
+
+pub rule-given : {P : Cause → Type 0} {rs : List Rule} {c : Cause} → RulesGive P rs → BrokenRule rs c → P c
+rule-given (RulesGive.each-rule h t) (BrokenRule.here e) = h e
+rule-given (RulesGive.each-rule h t) (BrokenRule.later k b) = rule-given t b
+
+-- A table after a table is broken in the first, or in the second where the first holds.
+pub broken-in : (xs : List Row) {ys : List Row} {f : Refusal} → Broken (xs ++ ys) f → Broken xs f ⊎ (AllHold xs × Broken ys f)
+broken-in [] b = inr (none, b)
+broken-in (x ∷ xs) (Broken.here b) = inl (Broken.here b)
+broken-in (x ∷ xs) (Broken.later h b) = ⊎-elim (λ c. inl (Broken.later h c)) (λ c. inr (more h (c .0), c .1)) (broken-in xs b)

@@ -6,3 +6,4 @@ pub mod Decided
 pub mod Labelled
 pub mod RowLaws
 pub mod Demand
+pub mod Seconds

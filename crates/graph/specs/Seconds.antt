@@ -7,6 +7,7 @@ use mathlib.Core.Bool.{Bool, true, false, _&&_}
 use lib.Dec.{ltb}
 use Rattle.folder.specs.Pick.{pick}
 use Rattle.folder.specs.Scan.{firstBad, all}
+use Rattle.folder.specs.declared.Refusal.{Refusal}
 use Rattle.expressions.specs.Limits.{noVariable}
 use Rattle.expressions.specs.Reading.{isKnown}
 use Rattle.expressions.specs.Mentions.{mentions, lacked, Lowest}
@@ -54,7 +55,7 @@ module _ (M : Model) (G : Simulation) (n : ℕ) where
   pub data Second19 : ℕ → Type 0 where
     by-guard : (c v : ℕ) → G .kind n ≡ 1 → c < M .commands → GuardsKnown c → truthOf M G n (M .guard c) ≡ Unknown → LacksVariable (M .guard c) v → Second19 v
     by-target : (v : ℕ) → (G .kind n ≡ 1 → GuardsKnown (M .commands)) → truthOf M G n (M .target) ≡ Unknown → LacksVariable (M .target) v → Second19 v
-    wrong-target : (G .kind n ≡ 1 → GuardsKnown (M .commands)) → truthOf M G n (M .target) ≢ Unknown → Second19 noVariable
+    definite : (G .kind n ≡ 1 → GuardsKnown (M .commands)) → truthOf M G n (M .target) ≢ Unknown → Second19 noVariable
 
   -- The edges below e, and of edge e the branches below b, follow.
   pub record FollowsBelow (e b : ℕ) : Type 0 where
@@ -74,3 +75,9 @@ module _ (M : Model) (G : Simulation) (n : ℕ) where
     by-concrete : (e b v : ℕ) → FollowsBelow e b → v < M .variables → resultAt e b v ≡ false → Second21 noVariable
     by-label : (e b v : ℕ) → FollowsBelow e b → ((k : ℕ) → k < M .variables → resultAt e b k ≡ true)
         → v < M .variables → tracks G (G .successor n e b) v ≡ true → labelAt e b v ≡ false → ((k : ℕ) → k < v → labelAt e b k ≡ true) → Second21 v
+
+-- A refusal with both places.
+pub record Told (M : Model) (G : Simulation) (f : Refusal) : Type 0 where
+  pub by-reading : f .number ≡ 19 → Second19 M G (f .place) (f .second)
+  pub by-successor : f .number ≡ 21 → Second21 M G (f .place) (f .second)
+  pub otherwise : f .number ≢ 19 → f .number ≢ 21 → f .second ≡ 0

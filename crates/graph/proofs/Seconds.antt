@@ -1,0 +1,202 @@
+-- What the second place of a refusal says, in words: of 19 the lowest variable that a guard or the target lacks, or none; of
+-- 21 the variable whose label does not follow, or none; of every other number 0.
+-- Assumes nothing.
+use Prim.Native.Nat.{ℕ, _+_, _<_, _≤_}
+use mathlib.Core.Path.{_≡_, refl, sym, ap, _∙_, subst}
+use mathlib.Core.Logic.{_⊎_, inl, inr, ⊎-elim, _≢_}
+use mathlib.Core.Bool.{Bool, true, false, _&&_, false≢true}
+use mathlib.Core.List.{List, _++_}
+use native.Mathlib.Decide.{decLt}
+use native.Mathlib.Omega.{arith}
+use borrow.Author.Tests.{lt-ltb, le-ltb, eq-eqb, eqb-true}
+use lib.Dec.{ltb, eqb}
+use Rattle.folder.specs.Pick.{pick, implies}
+use Rattle.folder.specs.Scan.{firstBad, all}
+use Rattle.folder.specs.Table.{refusal, refusalBy, allRules, firstBroken, Broken}
+use Rattle.folder.specs.declared.Cause.{Cause}
+use Rattle.folder.specs.declared.Refusal.{Refusal}
+use Rattle.folder.specs.declared.Outcome.the-variants.{Refused}
+use Rattle.folder.proofs.ScanLaws.{found, all-true, all-found}
+use Rattle.folder.proofs.Decides.{both-and}
+use Rattle.folder.proofs.TableLaws.{Gives, each, over, given, RulesGive, each-rule, rules-end, rule-given, broken-in, first-broken}
+use Rattle.expressions.specs.Limits.{noVariable}
+use Rattle.expressions.specs.Reading.{isKnown}
+use Rattle.expressions.specs.Mentions.{lacked}
+use Rattle.expressions.specs.Right.{IsTruth}
+use Rattle.expressions.specs.declared.Truth.{Truth}
+use Rattle.expressions.specs.declared.Truth.the-variants.{True, False, Unknown}
+use Rattle.expressions.proofs.Missing.{truth-lacks}
+use Rattle.model.specs.Model.{Model, modelOf, firstRecord}
+use Rattle.model.specs.Table.{modelRows}
+use Rattle.model.specs.Valid.{ModelRight}
+use Rattle.model.proofs.Decided.{model-asks}
+use Rattle.graph.specs.Simulation.{Simulation, simulationOf}
+use Rattle.graph.specs.Labels.{tracks, truthOf, readingOf}
+use Rattle.graph.specs.Rules.{isExpanded, resultIs, labelFollows, follows, edgeFollows, B2}
+use Rattle.graph.specs.Table.{nodeRules, ruleRows, graphRows, graphOutcome}
+use Rattle.graph.specs.Seconds.{openGuard, second19, badEdge, badBranch, successorFollows, secondOf, second21, LacksVariable, GuardsKnown, Second19, FollowsBelow, resultAt, labelAt, Second21, Told}
+use Rattle.graph.proofs.Decided.{refused-first}
+
+-- ---- readings
+unknown-is : (t : Truth) → isKnown t ≡ false → t ≡ Unknown
+unknown-is True e = absurd (false≢true (sym e))
+unknown-is False e = absurd (false≢true (sym e))
+unknown-is Unknown e = refl
+
+known-is : (t : Truth) → isKnown t ≡ true → t ≢ Unknown
+known-is t e q = false≢true (sym (ap isKnown q) ∙ e)
+
+module _ (M : Model) (G : Simulation) (n : ℕ) where
+  -- ---- 19
+  guards-before : {c : ℕ} → c ≤ openGuard M G n → GuardsKnown M G n c
+  guards-before l k h = known-is _ (found (λ c. isKnown (truthOf M G n (M .guard c))) (M .commands) .before k (omega arith))
+
+  module _ (right : ModelRight M) where
+    lacks : (e : ℕ) → IsTruth (M .entries) e → truthOf M G n e ≡ Unknown → LacksVariable M G n e (lacked (readingOf M G n e))
+    lacks e i o = rw o (truth-lacks (M .entries) (M .variables) (right .entries) (G .tracked n) _ e i o)
+
+    by-guards : G .kind n ≡ 1 → openGuard M G n < M .commands → Second19 M G n (second19 M G n)
+    unfolding second19
+    by-guards k l =
+        let o = unknown-is (truthOf M G n (M .guard (openGuard M G n))) (found (λ i. isKnown (truthOf M G n (M .guard i))) (M .commands) .broken l) in
+        rw (eq-eqb (G .kind n) 1 k, lt-ltb (openGuard M G n) (M .commands) l)
+        (Second19.by-guard (openGuard M G n) (lacked (readingOf M G n (M .guard (openGuard M G n)))) k l (guards-before (omega arith)) o
+        (lacks (M .guard (openGuard M G n)) (right .commands (openGuard M G n) l .guard) o))
+
+    by-target : (t : Truth) → truthOf M G n (M .target) ≡ t → (G .kind n ≡ 1 → GuardsKnown M G n (M .commands)) → Second19 M G n (lacked (readingOf M G n (M .target)))
+    by-target True e k = rw e (Second19.definite k (known-is _ (ap isKnown e)))
+    by-target False e k = rw e (Second19.definite k (known-is _ (ap isKnown e)))
+    by-target Unknown e k = Second19.by-target _ k e (lacks (M .target) (right .target) e)
+
+    pub second-19 : Second19 M G n (second19 M G n)
+    unfolding second19
+    second-19 = go (isExpanded G n) refl (decLt (openGuard M G n) (M .commands))
+      where
+        go : (b : Bool) → isExpanded G n ≡ b → Dec (openGuard M G n < M .commands) → Second19 M G n (second19 M G n)
+        go true k (yes l) = by-guards (eqb-true (G .kind n) 1 k) l
+        go true k (no h) = rw (k, le-ltb (openGuard M G n) (M .commands) (omega arith)) (by-target _ refl (λ q. guards-before (omega arith)))
+        go false k d = rw k (by-target _ refl (λ q. absurd (false≢true (sym k ∙ eq-eqb (G .kind n) 1 q))))
+
+  -- ---- 21
+  tracked-by : (a b : Bool) → implies a b ≡ false → a ≡ true
+  tracked-by true b e = refl
+  tracked-by false b e = sym e
+
+  second-and : (a b : Bool) → a ≡ true → (a && b) ≡ false → b ≡ false
+  second-and true b p e = e
+  second-and false b p e = absurd (false≢true p)
+
+  -- A test that not all places pass stops below the last.
+  stops : (ok : ℕ → Bool) (k : ℕ) → all ok k ≡ false → firstBad ok k < k
+  stops ok k e = go (decLt (firstBad ok k) k)
+    where
+      go : Dec (firstBad ok k < k) → firstBad ok k < k
+      go (yes l) = l
+      go (no h) = absurd (false≢true (sym e ∙ eq-eqb (firstBad ok k) k (omega (arith, found ok k .within))))
+
+  module _ (broken : B2 M G n ≡ false) where
+    edge-there : badEdge M G n < G .edges n
+    unfolding B2
+    edge-there = stops (edgeFollows M G n) (G .edges n) (go (isExpanded G n) broken)
+      where
+        go : (a : Bool) {b : Bool} → implies a b ≡ false → b ≡ false
+        go true e = e
+        go false e = absurd (false≢true (sym e))
+
+    branch-there : badBranch M G n < M .branches (G .command n (badEdge M G n))
+    unfolding edgeFollows
+    branch-there = stops (successorFollows M G n (badEdge M G n)) _ (found (edgeFollows M G n) (G .edges n) .broken edge-there)
+
+    below : FollowsBelow M G n (badEdge M G n) (badBranch M G n)
+    below = record {
+      edge = edge-there;
+      branch = branch-there;
+      edges = found (edgeFollows M G n) (G .edges n) .before;
+      branches = found (successorFollows M G n (badEdge M G n)) _ .before;
+    }
+
+    not-followed : successorFollows M G n (badEdge M G n) (badBranch M G n) ≡ false
+    not-followed = found (successorFollows M G n (badEdge M G n)) _ .broken branch-there
+
+    abbrev result : ℕ → Bool
+    result = resultAt M G n (badEdge M G n) (badBranch M G n)
+
+    abbrev label : ℕ → Bool
+    label = labelAt M G n (badEdge M G n) (badBranch M G n)
+
+    pub second-21 : Second21 M G n (second21 M G n)
+    unfolding second21 secondOf follows labelFollows
+    second-21 = go (all result (M .variables)) refl
+      where
+        go : (b : Bool) → all result (M .variables) ≡ b → Second21 M G n (second21 M G n)
+        go false e =
+            let l = stops result (M .variables) e in
+            rw e (Second21.by-concrete _ _ (firstBad result (M .variables)) below l (found result (M .variables) .broken l))
+        go true e =
+            let l = stops label (M .variables) (second-and _ _ e not-followed) in
+            let h = found label (M .variables) in
+            rw e (Second21.by-label _ _ _ below (all-true result (M .variables) e) l (tracked-by _ _ (h .broken l)) (h .broken l) (h .before))
+
+-- ---- of a whole answer
+module _ (M : Model) (G : Simulation) where
+  -- A row of another number gives no second place.
+  plain : (k p : ℕ) → k ≢ 19 → k ≢ 21 → Told M G (refusal k p)
+  plain k p a b = record { by-reading = λ e. absurd (a e); by-successor = λ e. absurd (b e); otherwise = λ x y. refl }
+
+  of-19 : (n : ℕ) → ModelRight M → Told M G (refusalBy (record { number = 19; second = second19 M G n }) n)
+  of-19 n right = record { by-reading = λ e. second-19 M G n right; by-successor = λ e. absurd (omega arith); otherwise = λ x y. absurd (x refl) }
+
+  of-21 : (n : ℕ) → B2 M G n ≡ false → Told M G (refusalBy (record { number = 21; second = second21 M G n }) n)
+  of-21 n e = record { by-reading = λ h. absurd (omega arith); by-successor = λ h. second-21 M G n e; otherwise = λ x y. absurd (y refl) }
+
+  other : (k p : ℕ) → k < 19 → Told M G (refusal k p)
+  other k p l = plain k p (λ e. omega arith) (λ e. omega arith)
+
+  node-told : ModelRight M → (n : ℕ) → RulesGive (λ c. Told M G (refusalBy c n)) (nodeRules M G n)
+  node-told right n =
+      each-rule (λ e. other 18 n (omega arith))
+      (each-rule (λ e. of-19 n right)
+      (each-rule (λ e. plain 20 n (λ h. omega arith) (λ h. omega arith))
+      (each-rule (λ e. of-21 n e)
+      (each-rule (λ e. plain 22 n (λ h. omega arith) (λ h. omega arith))
+      (each-rule (λ e. plain 23 n (λ h. omega arith) (λ h. omega arith))
+      (each-rule (λ e. plain 24 n (λ h. omega arith) (λ h. omega arith))
+      (each-rule (λ e. plain 25 n (λ h. omega arith) (λ h. omega arith)) rules-end)))))))
+
+  rules-told : ModelRight M → Gives (Told M G) (ruleRows M G)
+  rules-told right = each (λ n e. rule-given (node-told right n) (first-broken (nodeRules M G n) e)) over
+
+module _ (m g : List ℕ) where
+  abbrev ToldOf : Refusal → Type 0
+  ToldOf = Told (modelOf m) (simulationOf (modelOf m) g)
+
+  first-told : (k p : ℕ) → k < 19 → ToldOf (refusal k p)
+  first-told = other (modelOf m) (simulationOf (modelOf m) g)
+
+  model-told : Gives ToldOf (modelRows m)
+  model-told =
+      each (λ p e. first-told 1 0 (omega arith))
+      (each (λ p e. first-told 2 p (omega arith))
+      (each (λ p e. first-told 3 p (omega arith))
+      (each (λ p e. first-told 4 p (omega arith))
+      (each (λ p e. first-told 5 p (omega arith))
+      (each (λ p e. first-told 6 p (omega arith))
+      (each (λ p e. first-told 7 p (omega arith))
+      (each (λ p e. first-told 8 p (omega arith))
+      (each (λ p e. first-told 9 0 (omega arith))
+      (each (λ p e. first-told 10 p (omega arith))
+      (each (λ p e. first-told 11 p (omega arith)) over))))))))))
+
+  graph-told : ModelRight (modelOf m) → Gives ToldOf (graphRows (modelOf m) g)
+  graph-told right =
+      each (λ p e. first-told 12 0 (omega arith))
+      (each (λ p e. first-told 13 p (omega arith))
+      (each (λ p e. first-told 14 0 (omega arith))
+      (each (λ p e. first-told 15 p (omega arith))
+      (each (λ p e. first-told 16 p (omega arith))
+      (each (λ p e. first-told 17 0 (omega arith)) (rules-told (modelOf m) (simulationOf (modelOf m) g) right))))))
+
+  -- Request 2.2: both places of every refusal of the graph check.
+  pub second-told : (f : Refusal) → graphOutcome m g ≡ Refused f → ToldOf f
+  second-told f e =
+      ⊎-elim (λ b. given model-told b) (λ h. given (graph-told (model-asks m .0 (h .0) .model)) (h .1)) (broken-in (modelRows m) (refused-first m g f e))
