@@ -1,22 +1,25 @@
--- What an entry is under an interpretation depends only on the variables that it mentions: its value in a state, and its
--- reading in a label.
+-- What an entry mentions, by its sort. What it is under an interpretation depends only on that: its value in a state, and
+-- its reading in a label.
 -- Assumes nothing.
-use Prim.Native.Nat.{ℕ, zero, suc}
+use Prim.Native.Nat.{ℕ, zero, suc, _≤_}
 use mathlib.Core.Path.{_≡_, refl}
-use mathlib.Core.Bool.{Bool, true}
-use lib.IntN.{ℤ}
+use mathlib.Core.Bool.{true}
+use borrow.Author.Tests.{le-ltb}
+use lib.Bits.{or-zero-l, or-zero-r}
 use Rattle.expressions.specs.Entries.{Entries, numberForm, truthForm}
 use Rattle.expressions.specs.Levels.{Interpretation, numberStep, truthStep, numberAt, truthAt, number, truth}
 use Rattle.expressions.specs.Meaning.{State, valueOf, meaning, numberIn, truthIn}
 use Rattle.expressions.specs.Reading.{hasBit, reading, readNumber, readTruth}
+use Rattle.expressions.specs.Mentions.{union, mentioning, mentions}
+use Rattle.expressions.specs.Right.{IsNumber, IsTruth}
 use Rattle.expressions.specs.declared.Number.{Number}
 use Rattle.expressions.specs.declared.NumberForm.{NumberForm}
 use Rattle.expressions.specs.declared.NumberForm.the-variants.{Constant, Variable, Binary, If, NoNumber}
 use Rattle.expressions.specs.declared.TruthForm.{TruthForm}
 use Rattle.expressions.specs.declared.TruthForm.the-variants.{Compare, Not, Joined, Always, NoTruth}
-use Rattle.expressions.proofs.Levels.{equal}
-use Rattle.expressions.specs.Mentions.{union, mentioning, mentions}
 use Rattle.expressions.proofs.Bits.{own-bit, in-left, in-right}
+use Rattle.expressions.proofs.Forms.{number-only, truth-only}
+use Rattle.expressions.proofs.Levels.{equal}
 
 -- The same interpretation with other variables.
 abbrev over : {N T : Type 0} → Interpretation N T → (ℕ → N) → Interpretation N T
@@ -101,3 +104,17 @@ module _ (x : Entries) (look look′ : ℕ → Number) (e : ℕ) (h : Agree look
   pub truth-reads : readTruth x look e ≡ readTruth x look′ e
   unfolding readTruth
   truth-reads = truth-over (reading look) look′ x e h
+
+-- An entry mentions what it does by its sort, and one past the last mentions nothing.
+module _ (x : Entries) (e : ℕ) where
+  pub number-mentions : IsNumber x e → mentions x e ≡ number mentioning x e
+  unfolding mentions union truthAt
+  number-mentions n = rw (number-only x e n) (or-zero-r (number mentioning x e))
+
+  pub truth-mentions : IsTruth x e → mentions x e ≡ truth mentioning x e
+  unfolding mentions union numberAt
+  truth-mentions t = rw (truth-only x e t) (or-zero-l (truth mentioning x e))
+
+  pub past-mentions : x .count ≤ e → mentions x e ≡ 0
+  unfolding mentions union numberAt truthAt numberForm truthForm
+  past-mentions l = rw (le-ltb e (x .count) l) refl

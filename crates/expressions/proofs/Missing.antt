@@ -6,13 +6,14 @@ use mathlib.Core.Bool.{Bool, true, false, not, _&&_}
 use mathlib.Core.List.{List}
 use native.Mathlib.Decide.{decLt}
 use native.Mathlib.Omega.{arith}
-use borrow.Author.Tests.{lt-ltb, not-true, not-false}
+use borrow.Author.Tests.{lt-ltb, le-ltb, not-true, not-false}
 use lib.ListN.{getD}
 use lib.IntN.{ℤ, pos}
 use Rattle.folder.specs.Pick.{pick}
 use Rattle.folder.specs.Scan.{firstBad}
-use Rattle.folder.proofs.ScanLaws.{found}
+use Rattle.folder.proofs.ScanLaws.{found, all-found}
 use Rattle.folder.proofs.Decides.{and-both}
+use Rattle.expressions.specs.Limits.{noVariable}
 use Rattle.expressions.specs.Entries.{Entries}
 use Rattle.expressions.specs.Reading.{hasBit, knownTruth, lookIn, readNumber, readTruth}
 use Rattle.expressions.specs.Mentions.{mentions, isFree, missing, Lowest}
@@ -20,8 +21,9 @@ use Rattle.expressions.specs.Right.{IsNumber, IsTruth, EntryRight}
 use Rattle.expressions.specs.declared.Number.{Number}
 use Rattle.expressions.specs.declared.Number.the-variants.{Known, Unknown as Open}
 use Rattle.expressions.specs.declared.Truth.the-variants.{Unknown}
-use Rattle.expressions.proofs.Whole.{whole-number, whole-truth}
+use Rattle.expressions.proofs.Bits.{no-bit}
 use Rattle.expressions.proofs.Mentions.{Agree, number-reads, truth-reads}
+use Rattle.expressions.proofs.Whole.{whole-number, whole-truth}
 
 module _ (n m t : ℕ) where
   abbrev tracked-or-not-there : ℕ → Bool
@@ -41,6 +43,13 @@ module _ (n m t : ℕ) where
           let b = and-both (hasBit m (firstBad tracked-or-not-there n)) (not (hasBit t (firstBad tracked-or-not-there n))) (not-false _ (w .broken l)) in
           rw (lt-ltb (firstBad tracked-or-not-there n) n l) (record { there = l; mentioned = b .0; untracked = not-true _ (b .1); least = λ v k. not-true _ (w .before v k) })
       go (no g) = let w = found tracked-or-not-there n in absurd (f (λ v k. not-true _ (w .before v (omega (arith, w .within)))))
+
+-- Of the empty set nothing is missing.
+pub none-missing : (n t : ℕ) → missing n 0 t ≡ noVariable
+unfolding missing
+none-missing n t =
+    rw (all-found (λ v. not (isFree 0 t v)) n (λ v l. rw (no-bit 0 0 v (omega arith) (omega arith)) refl), le-ltb n n (omega arith))
+    refl
 
 tracked : (m t v : ℕ) → isFree m t v ≡ false → hasBit m v ≡ true → hasBit t v ≡ true
 tracked m t v f q = go (hasBit t v) (rw q at f)

@@ -1,0 +1,11 @@
+use mathlib.Core.Path.{refl}
+use Rattle.expressions.specs.Mentions.{union}
+use Rattle.mentions.proofs.union_of.Statement.{statement}
+use Rattle.mentions.proofs.union_of.Tie as tie
+
+returns : tie.Need-returns
+unfolding union
+returns c = refl
+
+pub union-of-spec : {M : Type 1} → statement M
+union-of-spec = tie.close (tie.spec returns)
