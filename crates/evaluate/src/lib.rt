@@ -11,6 +11,7 @@ ghost use Rattle.whole.specs.Limits.{farthest};
 ghost use Rattle.expressions.specs.Entries.{entriesOf};
 ghost use Rattle.expressions.specs.Levels.{numberAt, truthAt};
 ghost use Rattle.expressions.specs.Meaning.{truthIn};
+ghost use Rattle.expressions.specs.Mentions.{carryN, carryT, missing};
 ghost use Rattle.expressions.specs.Operations.{arithZ, relates};
 ghost use Rattle.expressions.specs.Reading.{arithN, chooseN, compareN, notT, andT, orT, joinT, lookIn, reading, readNumber, readTruth, isTrue};
 ghost use Rattle.expressions.specs.Right.{IsTruth};
@@ -23,9 +24,11 @@ use expressions::DEEPEST;
 use expressions::Join;
 use expressions::Number;
 use expressions::NumberForm;
+use expressions::NumberReading;
 use expressions::Relation;
 use expressions::Truth;
 use expressions::TruthForm;
+use expressions::TruthReading;
 
 // The value of variable i; past the last, 0.
 pub fn value_at(v: &[i64], i: usize) -> i64
@@ -161,6 +164,31 @@ pub fn joined(k: Join, a: Truth, b: Truth) -> Truth
     match k {
         Join::And => both(a, b),
         Join::Or => either(a, b),
+    }
+}
+
+// A reading and, if it is unknown, the variable that entry e lacks of `vars` in the label with the set t: `masks` has what
+// it mentions. Only then is that worked out.
+fn carry_number(r: Number, vars: usize, masks: &[u16], t: usize, e: usize) -> NumberReading
+    ensures { λ a. ⌜ a ≡ carryN (missing vars (getD (now (masks .entry)) e 0) t) r ⌝ }
+{
+    match r {
+        Number::Known(z) => NumberReading::Known(z),
+        Number::Unknown => {
+            NumberReading::Lacks(mentions::missing_of(vars, mentions::mask_at(masks, e), t))
+        }
+    }
+}
+
+fn carry_truth(r: Truth, vars: usize, masks: &[u16], t: usize, e: usize) -> TruthReading
+    ensures { λ a. ⌜ a ≡ carryT (missing vars (getD (now (masks .entry)) e 0) t) r ⌝ }
+{
+    match r {
+        Truth::True => TruthReading::True,
+        Truth::False => TruthReading::False,
+        Truth::Unknown => {
+            TruthReading::Lacks(mentions::missing_of(vars, mentions::mask_at(masks, e), t))
+        }
     }
 }
 
@@ -301,6 +329,20 @@ pub fn settled_truth(known: &[u8], values: &[i64], e: usize) -> Truth
     } else {
         Truth::Unknown
     }
+}
+
+// That truth, with the variable that entry e lacks if it is unknown.
+pub fn settled_reading(
+    known: &[u8],
+    values: &[i64],
+    vars: usize,
+    masks: &[u16],
+    t: usize,
+    e: usize,
+) -> TruthReading
+    ensures { λ r. ⌜ r ≡ carryT (missing vars (getD (now (masks .entry)) e 0) t) (truthFrom (getD (now (known .entry)) e 0) (getD (now (values .entry)) e (pos 0))) ⌝ }
+{
+    carry_truth(settled_truth(known, values, e), vars, masks, t, e)
 }
 
 // How entry e reads, from the rows of the entries below it.
