@@ -2,16 +2,19 @@
 -- Assumes nothing.
 use Prim.Native.Nat.{ℕ, _+_, _*_, _<_, _≤_}
 use native.Mathlib.Omega.{arith}
-use mathlib.Core.Path.{_≡_, refl, ap, ap₂, _∙_}
-use mathlib.Core.Bool.{Bool, _&&_}
+use mathlib.Core.Path.{_≡_, refl, sym, ap, ap₂, _∙_}
+use mathlib.Core.Bool.{Bool, true, false}
 use mathlib.Core.List.{List}
+use borrow.Author.Tests.{eq-eqb, ne-eqb}
 use lib.ListN.{getD, length}
 use lib.IntN.{ℤ, pos}
 use Rattle.folder.specs.Pick.{implies}
+use Rattle.folder.specs.Scan.{firstBad}
 use Rattle.folder.specs.Fields.{fieldLimit, u16, signed16}
 use Rattle.folder.specs.Contents.{body, field}
 use Rattle.folder.proofs.ContentsLaws.{record-whole}
 use Rattle.folder.proofs.Decides.{all-same, all-both}
+use Rattle.folder.proofs.ScanLaws.{first-same, found-le}
 use Rattle.whole.specs.Order.{eqZ}
 use Rattle.expressions.specs.Reading.{hasBit}
 use Rattle.model.specs.Limits.{mostExpressions}
@@ -21,22 +24,31 @@ use Rattle.model.proofs.Chances.{record-there}
 use Rattle.model.proofs.Limits.{limits, records-small}
 use Rattle.graph.specs.Simulation.{Simulation, nodeSize, edgeSize, edgeAt, nodeField, simulationOf}
 use Rattle.graph.specs.Rules.{resultIs, labelFollows, follows, edgeFollows}
+use Rattle.graph.specs.Seconds.{successorFollows, badEdge, secondOf, second21}
 use Rattle.graph.proofs.EdgePlaces.{place-next}
 use Rattle.expand.specs.Node.{NodeOf, LabelSettled, StateSettled, FirstsOf}
-use Rattle.expand.specs.Tests.{readsAt, Leads, AllLead, variableFollows, branchFollows, branchesFollow}
+use Rattle.expand.specs.Tests.{readsAt, Leads, AllLead, resultAt, labelAt, variableFollows, branchFollows, branchAt, apartBy}
 use Rattle.expand.proofs.Readings.{reads-is}
 
--- ---- the code's test of a variable, by its parts
-pub variable-tested : (vars : ℕ) (nb bs known : List ℕ) (values state : List ℤ) (from to v : ℕ) {e set c l : ℕ} {concrete label value : ℤ} {tracked same reading : Bool}
-    → e ≡ u16 bs (from + 2 + 2 * v) → c ≡ u16 nb (to + 12 + 2 * v) → concrete ≡ signed16 c → l ≡ u16 nb (to + 12 + 2 * vars + 2 * v) → label ≡ signed16 l
-    → set ≡ u16 nb (to + 10) → tracked ≡ hasBit set v → value ≡ getD state e (pos 0) → same ≡ eqZ concrete value → reading ≡ readsAt known values e label
-    → (same && implies tracked reading) ≡ variableFollows vars nb bs known values state from to v
-unfolding variableFollows
-variable-tested vars nb bs known values state from to v pe pc ps pl pa pt pb pv p q =
-    let i : from + 2 + 2 * v ≡ from + 2 * (1 + v) = omega arith in
-    let j : to + 12 + 2 * v ≡ to + 2 * (6 + v) = omega arith in
-    let k : to + 12 + 2 * vars + 2 * v ≡ to + 2 * (6 + vars + v) = omega arith in
-    rw (p, q, pv, pb, pt, ps, pa, pc, pl, pe, i, j, k) refl
+-- ---- the code's tests of a variable, by their parts
+module _ (vars : ℕ) (nb bs : List ℕ) (from to v : ℕ) {e : ℕ} (pe : e ≡ u16 bs (from + 2 + 2 * v)) where
+  pub result-tested : (state : List ℤ) {c : ℕ} {concrete value : ℤ} {same : Bool}
+      → c ≡ u16 nb (to + 12 + 2 * v) → concrete ≡ signed16 c → value ≡ getD state e (pos 0) → same ≡ eqZ concrete value
+      → same ≡ resultAt vars nb bs state from to v
+  unfolding resultAt
+  result-tested state pc ps pv p =
+      let i : from + 2 + 2 * v ≡ from + 2 * (1 + v) = omega arith in
+      let j : to + 12 + 2 * v ≡ to + 2 * (6 + v) = omega arith in
+      rw (p, pv, ps, pc, pe, i, j) refl
+
+  pub label-tested : (known : List ℕ) (values : List ℤ) {set l : ℕ} {label : ℤ} {tracked reading : Bool}
+      → l ≡ u16 nb (to + 12 + 2 * vars + 2 * v) → label ≡ signed16 l → set ≡ u16 nb (to + 10) → tracked ≡ hasBit set v → reading ≡ readsAt known values e label
+      → implies tracked reading ≡ labelAt vars nb bs known values from to v
+  unfolding labelAt
+  label-tested known values pl pa pt pb q =
+      let i : from + 2 + 2 * v ≡ from + 2 * (1 + v) = omega arith in
+      let k : to + 12 + 2 * vars + 2 * v ≡ to + 2 * (6 + vars + v) = omega arith in
+      rw (q, pb, pt, pa, pl, pe, i, k) refl
 
 -- The entry that is assigned has a place in the rows.
 pub entry-there : {vars from to : ℕ} {nb bs : List ℕ} → Leads vars nb bs from to → (v : ℕ) → v < vars → {e : ℕ} → e ≡ u16 bs (from + 2 + 2 * v) → e < mostExpressions
@@ -53,21 +65,41 @@ module _ {m g : List ℕ} {n : ℕ} {known : List ℕ} {values state : List ℤ}
   G = simulationOf M g
 
   module _ (r : ℕ) (l : r < M .records) (s : ℕ) where
-    variable-is : (v : ℕ) → v < M .variables → variableFollows (M .variables) (body g 0) (body m 4) known values state (branchSize (M .variables) * r) (nodeSize (M .variables) * s) v ≡ (resultIs M G n r s v && labelFollows M G n r s v)
-    unfolding variableFollows resultIs labelFollows field
-    variable-is v k =
-        let i = node .model .model .branches r l .number v k in
-        rw (stated .numbers (M .assigned r v) i, reads-is node settled i (G .label s v))
+    abbrev from : ℕ
+    from = branchSize (M .variables) * r
+
+    abbrev to : ℕ
+    to = nodeSize (M .variables) * s
+
+    result-is : (v : ℕ) → v < M .variables → resultAt (M .variables) (body g 0) (body m 4) state from to v ≡ resultIs M G n r s v
+    unfolding resultAt resultIs field
+    result-is v k = rw (stated .numbers (M .assigned r v) (node .model .model .branches r l .number v k))
+
+    label-is : (v : ℕ) → v < M .variables → labelAt (M .variables) (body g 0) (body m 4) known values from to v ≡ labelFollows M G n r s v
+    unfolding labelAt labelFollows field
+    label-is v k = rw (reads-is node settled (node .model .model .branches r l .number v k) (G .label s v))
 
     branch-is : branchFollows (M .variables) (body g 0) (body m 4) known values state r s ≡ follows M G n r s
-    unfolding branchFollows follows
-    branch-is = all-same (M .variables) variable-is ∙ all-both (M .variables) (resultIs M G n r s) (labelFollows M G n r s)
+    unfolding branchFollows variableFollows follows
+    branch-is =
+        all-same (M .variables) (λ v k. rw (result-is v k, label-is v k) refl) ∙ all-both (M .variables) (resultIs M G n r s) (labelFollows M G n r s)
 
-  edge-is : (e : ℕ) → G .command n e < M .commands
-      → branchesFollow (M .variables) (body g 0) (body m 4) known values state (body g 1) (firstRecord M (G .command n e)) (M .branches (G .command n e)) (edgeAt M g n e) ≡ edgeFollows M G n e
-  unfolding branchesFollow edgeFollows
-  edge-is e l = all-same (M .branches (G .command n e)) (λ b k.
-      branch-is (firstRecord M (G .command n e) + b) (record-there M (node .model .model) (G .command n e) b l k) (G .successor n e b))
+    apart-is : apartBy (M .variables) (body g 0) (body m 4) known values state r s ≡ secondOf M G n r s
+    unfolding apartBy secondOf
+    apart-is = rw (all-same (M .variables) result-is, first-same _ _ (M .variables) label-is) refl
+
+  -- Edge e, whose command is there: its first branch that does not follow.
+  module _ (e : ℕ) (l : G .command n e < M .commands) where
+    branch-first : firstBad (branchAt (M .variables) (body g 0) (body m 4) known values state (body g 1) (firstRecord M (G .command n e)) (edgeAt M g n e)) (M .branches (G .command n e))
+        ≡ firstBad (successorFollows M G n e) (M .branches (G .command n e))
+    unfolding branchAt
+    branch-first = first-same _ _ (M .branches (G .command n e)) (λ b k.
+        branch-is (firstRecord M (G .command n e) + b) (record-there M (node .model .model) (G .command n e) b l k) (G .successor n e b))
+
+    branch-apart : (b : ℕ) → b < M .branches (G .command n e)
+        → apartBy (M .variables) (body g 0) (body m 4) known values state (firstRecord M (G .command n e) + b) (G .successor n e b)
+        ≡ secondOf M G n (firstRecord M (G .command n e) + b) (G .successor n e b)
+    branch-apart b k = apart-is (firstRecord M (G .command n e) + b) (record-there M (node .model .model) (G .command n e) b l k) (G .successor n e b)
 
 -- ---- as the code reads it
 -- Edge e of node n, of `edges`, stands at p; its command is c, which has so many branches.
@@ -128,7 +160,33 @@ module _ {m g : List ℕ} {n : ℕ} {cs eb : List ℕ} {edges e p c branches : �
     pub records-fit : getD firsts c 0 + branches ≤ fieldLimit
     records-fit = omega (arith, first-is, branches-are, records-small (node .model) _ command-there)
 
-    pub edge-tested : {known : List ℕ} {values state : List ℤ} → LabelSettled m g n known values → StateSettled m g n state → {vars : ℕ} {bs nb : List ℕ} → Held m g vars bs nb
-        → {t : Bool} → t ≡ branchesFollow vars nb bs known values state eb (getD firsts c 0) branches p → t ≡ edgeFollows (modelOf m) (simulationOf (modelOf m) g) n e
-    edge-tested settled stated held q =
-        q ∙ rw (first-is, branches-are, held .variables, held .records-in, held .nodes-in, read .edges-in, read .stands) (edge-is node settled stated e command-there)
+    -- Where the code found no branch that does not follow, the edge follows; else it does not, and if the edges before
+    -- it do, the code has the second place.
+    module _ {known : List ℕ} {values state : List ℤ} (settled : LabelSettled m g n known values) (stated : StateSettled m g n state)
+        {vars : ℕ} {bs nb : List ℕ} (held : Held m g vars bs nb) {b : ℕ} (q : b ≡ firstBad (branchAt vars nb bs known values state eb (getD firsts c 0) p) branches) where
+      abbrev follow : ℕ → Bool
+      follow = successorFollows (modelOf m) (simulationOf (modelOf m) g) n e
+
+      abbrev count : ℕ
+      count = modelOf m .branches (simulationOf (modelOf m) g .command n e)
+
+      abbrev worst : ℕ
+      worst = firstBad follow count
+
+      first-bad : b ≡ worst
+      first-bad = q ∙ rw (first-is, branches-are, held .variables, held .records-in, held .nodes-in, read .edges-in, read .stands) (branch-first node settled stated e command-there)
+
+      pub edge-passes : branches ≤ b → true ≡ edgeFollows (modelOf m) (simulationOf (modelOf m) g) n e
+      unfolding edgeFollows
+      edge-passes l = sym (eq-eqb worst count (omega (arith, first-bad, branches-are, found-le follow count first-bad)))
+
+      pub edge-breaks : b < branches → false ≡ edgeFollows (modelOf m) (simulationOf (modelOf m) g) n e
+      unfolding edgeFollows
+      edge-breaks l = sym (ne-eqb worst count (λ h. omega (arith, first-bad, branches-are)))
+
+      pub second-found : b < branches → e ≡ badEdge (modelOf m) (simulationOf (modelOf m) g) n → {s v : ℕ} → s ≡ u16 eb (p + 2 + 2 * b)
+          → v ≡ apartBy vars nb bs known values state (getD firsts c 0 + b) s → v ≡ second21 (modelOf m) (simulationOf (modelOf m) g) n
+      unfolding second21
+      second-found l h i j =
+          let a = branch-apart node settled stated e command-there b (omega (arith, branches-are)) in
+          j ∙ rw (i, first-is, held .variables, held .records-in, held .nodes-in, read .edges-in, read .stands) (a ∙ rw (first-bad, h) refl)

@@ -5,6 +5,7 @@ use mathlib.Core.Path.{_≡_}
 use mathlib.Core.List.{List}
 use lib.ListN.{length, getD}
 use lib.IntN.{ℤ}
+use Rattle.mentions.specs.Masked.{Masked}
 use Rattle.evaluate.specs.Settled.{Settled, StateRow}
 use Rattle.model.specs.Limits.{mostExpressions}
 use Rattle.model.specs.Model.{modelOf, firstRecord}
@@ -31,6 +32,10 @@ module _ (m g : List ℕ) (n : ℕ) where
 -- The rows have a place for each expression that a model may have.
 abbrev pub RowsLong : List ℕ → List ℤ → List ℤ → Type 0
 RowsLong known values state = (mostExpressions ≤ length known) × (mostExpressions ≤ length values) × (mostExpressions ≤ length state)
+
+-- The row has what each entry mentions.
+abbrev pub MasksOf : List ℕ → List ℕ → Type 0
+MasksOf m masks = Masked (modelOf m .entries) (modelOf m .entries .count) masks
 
 -- The row has each command's first branch record.
 pub record FirstsOf (m : List ℕ) (firsts : List ℕ) : Type 0 where

@@ -6,10 +6,11 @@ use mathlib.Core.List.{List}
 use lib.Dec.{ltb, eqb}
 use lib.ListN.{getD, length}
 use lib.IntN.{ℤ, pos}
-use Rattle.folder.specs.Pick.{implies}
-use Rattle.folder.specs.Scan.{all}
+use Rattle.folder.specs.Pick.{pick, implies}
+use Rattle.folder.specs.Scan.{firstBad, all}
 use Rattle.folder.specs.Fields.{u16, i16}
 use Rattle.whole.specs.Order.{eqZ}
+use Rattle.expressions.specs.Limits.{noVariable}
 use Rattle.expressions.specs.Reading.{hasBit}
 use Rattle.model.specs.Limits.{mostExpressions}
 use Rattle.model.specs.Layout.{branchSize}
@@ -40,19 +41,30 @@ module _ (variables : ℕ) (nb bs : List ℕ) where
     pub node : to + nodeSize variables ≤ length nb
     pub entries : (v : ℕ) → v < variables → u16 bs (from + 2 * (1 + v)) < mostExpressions
 
-  module _ (known : List ℕ) (values state : List ℤ) where
-    -- It gives variable v what the node has, and reads so in the label where the node tracks v.
-    unfoldable pub variableFollows : ℕ → ℕ → ℕ → Bool
-    variableFollows from to v =
-        eqZ (i16 nb (to + 2 * (6 + v))) (getD state (u16 bs (from + 2 * (1 + v))) (pos 0))
-        && implies (hasBit (u16 nb (to + 2 * 5)) v) (readsAt known values (u16 bs (from + 2 * (1 + v))) (i16 nb (to + 2 * (6 + variables + v))))
+  -- The branch record gives variable v what the node has; and where the node tracks v, it reads so in the label.
+  unfoldable pub resultAt : List ℤ → ℕ → ℕ → ℕ → Bool
+  resultAt state from to v = eqZ (i16 nb (to + 2 * (6 + v))) (getD state (u16 bs (from + 2 * (1 + v))) (pos 0))
 
-    -- All variables, of branch record r and node s; and all branches of the edge at p, whose records stand from `first` on.
+  unfoldable pub labelAt : List ℕ → List ℤ → ℕ → ℕ → ℕ → Bool
+  labelAt known values from to v =
+      implies (hasBit (u16 nb (to + 2 * 5)) v) (readsAt known values (u16 bs (from + 2 * (1 + v))) (i16 nb (to + 2 * (6 + variables + v))))
+
+  module _ (known : List ℕ) (values state : List ℤ) where
+    unfoldable pub variableFollows : ℕ → ℕ → ℕ → Bool
+    variableFollows from to v = resultAt state from to v && labelAt known values from to v
+
+    -- All variables, of branch record r and node s; and branch b of the edge at p, whose records stand from `first` on.
     unfoldable pub branchFollows : ℕ → ℕ → Bool
     branchFollows r s = all (variableFollows (branchSize variables * r) (nodeSize variables * s)) variables
 
-    unfoldable pub branchesFollow : List ℕ → ℕ → ℕ → ℕ → Bool
-    branchesFollow eb first branches p = all (λ b. branchFollows (first + b) (successorIn eb p b)) branches
+    unfoldable pub branchAt : List ℕ → ℕ → ℕ → ℕ → Bool
+    branchAt eb first p b = branchFollows (first + b) (successorIn eb p b)
+
+    -- Which variable breaks it.
+    unfoldable pub apartBy : ℕ → ℕ → ℕ
+    apartBy r s =
+        pick (all (resultAt state (branchSize variables * r) (nodeSize variables * s)) variables)
+        (firstBad (labelAt known values (branchSize variables * r) (nodeSize variables * s)) variables) noVariable
 
   -- All branches of the edge at p lead so.
   pub record AllLead (eb : List ℕ) (first branches p : ℕ) : Type 0 where

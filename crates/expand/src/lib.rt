@@ -2,26 +2,32 @@
 // before, once for the node: `known` and `values` for its label, and `state` for its concrete state.
 use expressions::ALL_TRACKED;
 use expressions::MOST_VARIABLES;
+use expressions::NO_VARIABLE;
+use expressions::TruthReading;
 use graph::EXPANDED;
 use graph::TARGET;
 ghost use mathlib.Core.Path.{_≡_};
-ghost use mathlib.Core.Bool.{true};
+ghost use mathlib.Core.Bool.{true, false};
 ghost use Prim.Native.Nat.{_+_, _*_, _<_, _≤_, _^_};
 ghost use lib.ListN.{length, getD};
 ghost use lib.IntN.{pos};
 ghost use Rattle.folder.specs.Fields.{fieldLimit, u16, signed16};
 ghost use Rattle.folder.specs.Contents.{field};
-ghost use Rattle.folder.specs.Scan.{all};
+ghost use Rattle.folder.specs.Scan.{all, firstBad};
 ghost use Rattle.folder.specs.Tab.{fill};
+ghost use Rattle.expressions.specs.Mentions.{lacked};
+ghost use Rattle.expressions.specs.Right.{IsTruth};
 ghost use Rattle.model.specs.Limits.{mostVariables, mostExpressions, mostCommands};
 ghost use Rattle.model.specs.Layout.{branchSize};
 ghost use Rattle.model.specs.Model.{modelOf};
 ghost use Rattle.model.specs.Valid.{Valid};
 ghost use Rattle.graph.specs.Simulation.{nodeSize, nodeField, simulationOf};
+ghost use Rattle.graph.specs.Labels.{readingOf};
 ghost use Rattle.graph.specs.Rules.{A1, A2, sameEdges, B1, edgesFollow, B2};
+ghost use Rattle.graph.specs.Seconds.{second19, second21};
 ghost use Rattle.graph.specs.Walks.{startsAt};
-ghost use Rattle.expand.specs.Node.{NodeOf, LabelSettled, StateSettled, FirstsOf, RowsLong};
-ghost use Rattle.expand.specs.Tests.{knownAt, falseAt, readsAt, namesAt, Leads, AllLead, variableFollows, branchFollows, branchesFollow};
+ghost use Rattle.expand.specs.Node.{NodeOf, LabelSettled, StateSettled, FirstsOf, MasksOf, RowsLong};
+ghost use Rattle.expand.specs.Tests.{knownAt, falseAt, readsAt, namesAt, Leads, AllLead, resultAt, labelAt, variableFollows, branchFollows, branchAt, apartBy};
 
 // Fills the front of a row with the values of node n whose first is field f: 6 for the concrete label, and as many more
 // as there are variables for the abstract one.
@@ -109,10 +115,10 @@ fn reads_at(known: &[u8], values: &[i64], e: usize, z: i64) -> bool
     known_at(known, e) & whole::equal(evaluate::value_at(values, e), z)
 }
 
-// Every guard reads known.
-fn guards_known(m: &[u8], known: &[u8]) -> bool
+// The first command whose guard does not read known; the count of commands if each does.
+fn open_guard(m: &[u8], known: &[u8]) -> usize
     requires { ⌜ Valid (now m) ⌝ }
-    ensures { λ r. ⌜ r ≡ all (λ c. knownAt (now (known .entry)) (modelOf (now (m .entry)) .guard c)) (modelOf (now (m .entry)) .commands) ⌝ }
+    ensures { λ r. ⌜ r ≡ firstBad (λ c. knownAt (now (known .entry)) (modelOf (now (m .entry)) .guard c)) (modelOf (now (m .entry)) .commands) ⌝ }
 {
     let cs = folder::body(m, 3);
     let commands = command_count(m);
@@ -121,27 +127,129 @@ fn guards_known(m: &[u8], known: &[u8]) -> bool
         if known_at(known, folder::field(4, cs, c, 0)) {
             c += 1;
         } else {
-            return false;
+            return c;
         }
     }
-    true
+    c
+}
+
+// The variable of a reading that lacks one.
+fn lacked_by(r: TruthReading) -> usize
+    ensures { λ v. ⌜ v ≡ lacked r ⌝ }
+{
+    match r {
+        TruthReading::True => NO_VARIABLE,
+        TruthReading::False => NO_VARIABLE,
+        TruthReading::Lacks(v) => v,
+    }
+}
+
+// The variable that entry e lacks in the label of node n.
+fn lacked_at(
+    m: &[u8],
+    g: &[u8],
+    n: usize,
+    known: &[u8],
+    values: &[i64],
+    masks: &[u16],
+    e: usize,
+) -> usize
+    requires { ⌜ NodeOf (now m) (now g) n ⌝ }
+    requires { ⌜ LabelSettled (now m) (now g) n (now known) (now values) ⌝ }
+    requires { ⌜ MasksOf (now m) (now masks) ⌝ }
+    requires { ⌜ IsTruth (modelOf (now m) .entries) e ⌝ }
+    ensures { λ r. ⌜ r ≡ lacked (readingOf (modelOf (now (m .entry))) (simulationOf (modelOf (now (m .entry))) (now (g .entry))) n e) ⌝ }
+{
+    let vars = graph::variable_count(m);
+    let set = node_field(m, g, n, 5);
+    lacked_by(evaluate::settled_reading(known, values, vars, masks, set, e))
+}
+
+// A rule of a node: whether it holds, and if not, the second place of its refusal.
+pub struct Kept {
+    pub holds: bool,
+    pub second: usize,
+}
+
+// A2 of a node whose guards are not in question, by what is asked of its target.
+fn target_kept(
+    m: &[u8],
+    g: &[u8],
+    n: usize,
+    known: &[u8],
+    values: &[i64],
+    masks: &[u16],
+    holds: bool,
+) -> Kept
+    requires { ⌜ NodeOf (now m) (now g) n ⌝ }
+    requires { ⌜ LabelSettled (now m) (now g) n (now known) (now values) ⌝ }
+    requires { ⌜ MasksOf (now m) (now masks) ⌝ }
+    ensures { λ r. ⌜ (r .holds ≡ holds) × (r .holds ≡ false → r .second ≡ lacked (readingOf (modelOf (now (m .entry))) (simulationOf (modelOf (now (m .entry))) (now (g .entry))) n (modelOf (now (m .entry)) .target))) ⌝ }
+{
+    if holds {
+        return Kept { holds, second: 0 };
+    }
+    let target = folder::field(4, folder::body(m, 0), 0, 1);
+    let second = lacked_at(m, g, n, known, values, masks, target);
+    Kept { holds, second }
+}
+
+// A2 of an expanded node: its guards by command, then the target.
+fn expanded_kept(m: &[u8], g: &[u8], n: usize, known: &[u8], values: &[i64], masks: &[u16]) -> Kept
+    requires { ⌜ NodeOf (now m) (now g) n ⌝ }
+    requires { ⌜ LabelSettled (now m) (now g) n (now known) (now values) ⌝ }
+    requires { ⌜ MasksOf (now m) (now masks) ⌝ }
+    requires { ⌜ simulationOf (modelOf (now m)) (now g) .kind n ≡ 1 ⌝ }
+    ensures { λ r. ⌜ (r .holds ≡ A2 (modelOf (now (m .entry))) (simulationOf (modelOf (now (m .entry))) (now (g .entry))) n) × (r .holds ≡ false → r .second ≡ second19 (modelOf (now (m .entry))) (simulationOf (modelOf (now (m .entry))) (now (g .entry))) n) ⌝ }
+{
+    let c = open_guard(m, known);
+    if c < command_count(m) {
+        let guard = folder::field(4, folder::body(m, 3), c, 0);
+        let second = lacked_at(m, g, n, known, values, masks, guard);
+        return Kept {
+            holds: false,
+            second,
+        };
+    }
+    let target = folder::field(4, folder::body(m, 0), 0, 1);
+    target_kept(
+        m,
+        g,
+        n,
+        known,
+        values,
+        masks,
+        false_at(known, values, target),
+    )
 }
 
 // Row 19.
-pub fn a2(m: &[u8], g: &[u8], n: usize, known: &[u8], values: &[i64]) -> bool
+pub fn a2(m: &[u8], g: &[u8], n: usize, known: &[u8], values: &[i64], masks: &[u16]) -> Kept
     requires { ⌜ NodeOf (now m) (now g) n ⌝ }
     requires { ⌜ LabelSettled (now m) (now g) n (now known) (now values) ⌝ }
-    ensures { λ r. ⌜ r ≡ A2 (modelOf (now (m .entry))) (simulationOf (modelOf (now (m .entry))) (now (g .entry))) n ⌝ }
+    requires { ⌜ MasksOf (now m) (now masks) ⌝ }
+    ensures { λ r. ⌜ (r .holds ≡ A2 (modelOf (now (m .entry))) (simulationOf (modelOf (now (m .entry))) (now (g .entry))) n) × (r .holds ≡ false → r .second ≡ second19 (modelOf (now (m .entry))) (simulationOf (modelOf (now (m .entry))) (now (g .entry))) n) ⌝ }
 {
     let kind = node_field(m, g, n, 0);
-    let target = folder::field(4, folder::body(m, 0), 0, 1);
     if kind == EXPANDED {
-        return guards_known(m, known) & false_at(known, values, target);
+        return expanded_kept(m, g, n, known, values, masks);
     }
     if kind == TARGET {
-        return reads_at(known, values, target, 1);
+        let target = folder::field(4, folder::body(m, 0), 0, 1);
+        return target_kept(
+            m,
+            g,
+            n,
+            known,
+            values,
+            masks,
+            reads_at(known, values, target, 1),
+        );
     }
-    true
+    Kept {
+        holds: true,
+        second: 0,
+    }
 }
 
 // Edge k of a node that has `edges` of them, which stands at p, is there and names the command c.
@@ -210,8 +318,47 @@ fn reads_in(known: &[u8], values: &[i64], e: usize, z: i64) -> bool
     (known[e] == 1) & whole::equal(value_in(values, e), z)
 }
 
-// The branch record at `from` gives variable v what the node at `to` has, and reads so in the label where the node tracks
-// v. The set of what it tracks is read once for all variables.
+// A branch record and the node that is its successor, by where they start in their bodies, and the set of what that node
+// tracks, which is read once for all variables.
+struct Lead {
+    from: usize,
+    to: usize,
+    set: usize,
+}
+
+// The branch record gives variable v what the node has.
+fn result_is(vars: usize, nb: &[u8], bs: &[u8], state: &[i64], lead: Lead, v: usize) -> bool
+    requires { ⌜ (vars ≤ mostVariables) × (v < vars) ⌝ }
+    requires { ⌜ Leads vars (now nb) (now bs) (lead .from) (lead .to) ⌝ }
+    requires { ⌜ mostExpressions ≤ length (now state) ⌝ }
+    ensures { λ t. ⌜ t ≡ resultAt vars (now (nb .entry)) (now (bs .entry)) (now (state .entry)) (lead .from) (lead .to) v ⌝ }
+{
+    let e = folder::u16_in(bs, lead.from + 2 + 2 * v);
+    let concrete = folder::signed_of(folder::u16_in(nb, lead.to + 12 + 2 * v));
+    whole::equal(concrete, value_in(state, e))
+}
+
+// And where the node tracks v, it reads so in the label.
+fn label_is(
+    vars: usize,
+    nb: &[u8],
+    bs: &[u8],
+    known: &[u8],
+    values: &[i64],
+    lead: Lead,
+    v: usize,
+) -> bool
+    requires { ⌜ (vars ≤ mostVariables) × (v < vars) ⌝ }
+    requires { ⌜ Leads vars (now nb) (now bs) (lead .from) (lead .to) ⌝ }
+    requires { ⌜ (mostExpressions ≤ length (now known)) × (mostExpressions ≤ length (now values)) ⌝ }
+    ensures { λ t. ⌜ (lead .set ≡ u16 (now (nb .entry)) (lead .to + 10) → t ≡ labelAt vars (now (nb .entry)) (now (bs .entry)) (now (known .entry)) (now (values .entry)) (lead .from) (lead .to) v) ⌝ }
+{
+    let e = folder::u16_in(bs, lead.from + 2 + 2 * v);
+    let label = folder::signed_of(folder::u16_in(nb, lead.to + 12 + 2 * vars + 2 * v));
+    let tracked = expressions::has_bit(lead.set, v);
+    !tracked | reads_in(known, values, e, label)
+}
+
 fn variable_follows(
     vars: usize,
     nb: &[u8],
@@ -219,24 +366,31 @@ fn variable_follows(
     known: &[u8],
     values: &[i64],
     state: &[i64],
-    from: usize,
-    to: usize,
-    set: usize,
+    lead: Lead,
     v: usize,
 ) -> bool
     requires { ⌜ (vars ≤ mostVariables) × (v < vars) ⌝ }
-    requires { ⌜ Leads vars (now nb) (now bs) from to ⌝ }
+    requires { ⌜ Leads vars (now nb) (now bs) (lead .from) (lead .to) ⌝ }
     requires { ⌜ RowsLong (now known) (now values) (now state) ⌝ }
-    ensures { λ t. ⌜ (set ≡ u16 (now (nb .entry)) (to + 10) → t ≡ variableFollows vars (now (nb .entry)) (now (bs .entry)) (now (known .entry)) (now (values .entry)) (now (state .entry)) from to v) ⌝ }
+    ensures { λ t. ⌜ (lead .set ≡ u16 (now (nb .entry)) (lead .to + 10) → t ≡ variableFollows vars (now (nb .entry)) (now (bs .entry)) (now (known .entry)) (now (values .entry)) (now (state .entry)) (lead .from) (lead .to) v) ⌝ }
 {
-    let e = folder::u16_in(bs, from + 2 + 2 * v);
-    let concrete = folder::signed_of(folder::u16_in(nb, to + 12 + 2 * v));
-    let label = folder::signed_of(folder::u16_in(nb, to + 12 + 2 * vars + 2 * v));
-    let tracked = expressions::has_bit(set, v);
-    whole::equal(concrete, value_in(state, e)) & (!tracked | reads_in(known, values, e, label))
+    let same = result_is(vars, nb, bs, state, lead, v);
+    same & label_is(vars, nb, bs, known, values, lead, v)
 }
 
-// Branch record r and node s.
+// Branch record r and node s, where both start.
+fn lead_of(vars: usize, nb: &[u8], r: usize, s: usize) -> Lead
+    requires { ⌜ (vars ≤ mostVariables) × (r ≤ fieldLimit) × (s ≤ fieldLimit) ⌝ }
+    requires { ⌜ nodeSize vars * s + nodeSize vars ≤ length (now nb) ⌝ }
+    ensures { λ l. ⌜ (l .from ≡ branchSize vars * r) × (l .to ≡ nodeSize vars * s) × (l .set ≡ u16 (now (nb .entry)) (l .to + 10)) ⌝ }
+{
+    let from = (2 + 2 * vars) * r;
+    let to = (12 + 4 * vars) * s;
+    let set = folder::u16_in(nb, to + 10);
+    Lead { from, to, set }
+}
+
+// All variables of branch record r and node s.
 fn branch_follows(
     vars: usize,
     nb: &[u8],
@@ -252,12 +406,10 @@ fn branch_follows(
     requires { ⌜ RowsLong (now known) (now values) (now state) ⌝ }
     ensures { λ t. ⌜ t ≡ branchFollows vars (now (nb .entry)) (now (bs .entry)) (now (known .entry)) (now (values .entry)) (now (state .entry)) r s ⌝ }
 {
-    let from = (2 + 2 * vars) * r;
-    let to = (12 + 4 * vars) * s;
-    let set = folder::u16_in(nb, to + 10);
+    let lead = lead_of(vars, nb, r, s);
     let mut v = 0;
     while v < vars {
-        if variable_follows(vars, nb, bs, known, values, state, from, to, set, v) {
+        if variable_follows(vars, nb, bs, known, values, state, lead, v) {
             v += 1;
         } else {
             return false;
@@ -266,29 +418,17 @@ fn branch_follows(
     true
 }
 
-// Each branch of the edge at p: its records stand from `first` on.
-fn branches_follow(
-    vars: usize,
-    nb: &[u8],
-    bs: &[u8],
-    known: &[u8],
-    values: &[i64],
-    state: &[i64],
-    eb: &[u8],
-    first: usize,
-    branches: usize,
-    p: usize,
-) -> bool
-    requires { ⌜ (vars ≤ mostVariables) × (first + branches ≤ fieldLimit) × (p < 2 ^ 40) ⌝ }
-    requires { ⌜ AllLead vars (now nb) (now bs) (now eb) first branches p ⌝ }
-    requires { ⌜ RowsLong (now known) (now values) (now state) ⌝ }
-    ensures { λ t. ⌜ t ≡ branchesFollow vars (now (nb .entry)) (now (bs .entry)) (now (known .entry)) (now (values .entry)) (now (state .entry)) (now (eb .entry)) first branches p ⌝ }
+// The concrete label of the node is the branch's result, in all variables.
+fn results_are(vars: usize, nb: &[u8], bs: &[u8], state: &[i64], lead: Lead) -> bool
+    requires { ⌜ vars ≤ mostVariables ⌝ }
+    requires { ⌜ Leads vars (now nb) (now bs) (lead .from) (lead .to) ⌝ }
+    requires { ⌜ mostExpressions ≤ length (now state) ⌝ }
+    ensures { λ t. ⌜ t ≡ all (resultAt vars (now (nb .entry)) (now (bs .entry)) (now (state .entry)) (lead .from) (lead .to)) vars ⌝ }
 {
-    let mut b = 0;
-    while b < branches {
-        let s = folder::u16_at(eb, p + 2 + 2 * b);
-        if branch_follows(vars, nb, bs, known, values, state, first + b, s) {
-            b += 1;
+    let mut v = 0;
+    while v < vars {
+        if result_is(vars, nb, bs, state, lead, v) {
+            v += 1;
         } else {
             return false;
         }
@@ -296,10 +436,92 @@ fn branches_follow(
     true
 }
 
-// B2 of a node: whether it holds, and if so, where the next node's edges start.
+// The first variable that the node tracks and that does not read so in the label.
+fn first_apart(vars: usize, nb: &[u8], bs: &[u8], known: &[u8], values: &[i64], lead: Lead) -> usize
+    requires { ⌜ vars ≤ mostVariables ⌝ }
+    requires { ⌜ Leads vars (now nb) (now bs) (lead .from) (lead .to) ⌝ }
+    requires { ⌜ lead .set ≡ u16 (now nb) (lead .to + 10) ⌝ }
+    requires { ⌜ (mostExpressions ≤ length (now known)) × (mostExpressions ≤ length (now values)) ⌝ }
+    ensures { λ r. ⌜ r ≡ firstBad (labelAt vars (now (nb .entry)) (now (bs .entry)) (now (known .entry)) (now (values .entry)) (lead .from) (lead .to)) vars ⌝ }
+{
+    let mut v = 0;
+    while v < vars {
+        if label_is(vars, nb, bs, known, values, lead, v) {
+            v += 1;
+        } else {
+            return v;
+        }
+    }
+    v
+}
+
+// Which variable breaks B2 where branch record r does not lead to node s; none in particular where it is the concrete label.
+fn apart_by(
+    vars: usize,
+    nb: &[u8],
+    bs: &[u8],
+    known: &[u8],
+    values: &[i64],
+    state: &[i64],
+    r: usize,
+    s: usize,
+) -> usize
+    requires { ⌜ (vars ≤ mostVariables) × (r ≤ fieldLimit) × (s ≤ fieldLimit) ⌝ }
+    requires { ⌜ Leads vars (now nb) (now bs) (branchSize vars * r) (nodeSize vars * s) ⌝ }
+    requires { ⌜ RowsLong (now known) (now values) (now state) ⌝ }
+    ensures { λ v. ⌜ v ≡ apartBy vars (now (nb .entry)) (now (bs .entry)) (now (known .entry)) (now (values .entry)) (now (state .entry)) r s ⌝ }
+{
+    let lead = lead_of(vars, nb, r, s);
+    if results_are(vars, nb, bs, state, lead) {
+        first_apart(vars, nb, bs, known, values, lead)
+    } else {
+        NO_VARIABLE
+    }
+}
+
+// An edge: where it stands, and the branch records of its command, from `first` on.
+struct Edge {
+    at: usize,
+    first: usize,
+    branches: usize,
+}
+
+// The first branch of an edge that does not follow; their count if each does.
+fn first_bad_branch(
+    vars: usize,
+    nb: &[u8],
+    bs: &[u8],
+    known: &[u8],
+    values: &[i64],
+    state: &[i64],
+    eb: &[u8],
+    edge: Edge,
+) -> usize
+    requires { ⌜ (vars ≤ mostVariables) × (edge .first + edge .branches ≤ fieldLimit) × (edge .at < 2 ^ 40) ⌝ }
+    requires { ⌜ AllLead vars (now nb) (now bs) (now eb) (edge .first) (edge .branches) (edge .at) ⌝ }
+    requires { ⌜ RowsLong (now known) (now values) (now state) ⌝ }
+    ensures { λ t. ⌜ t ≡ firstBad (branchAt vars (now (nb .entry)) (now (bs .entry)) (now (known .entry)) (now (values .entry)) (now (state .entry)) (now (eb .entry)) (edge .first) (edge .at)) (edge .branches) ⌝ }
+{
+    let first = edge.first;
+    let branches = edge.branches;
+    let p = edge.at;
+    let mut b = 0;
+    while b < branches {
+        let s = folder::u16_at(eb, p + 2 + 2 * b);
+        if branch_follows(vars, nb, bs, known, values, state, first + b, s) {
+            b += 1;
+        } else {
+            return b;
+        }
+    }
+    b
+}
+
+// B2 of a node: whether it holds; if so, where the next node's edges start; and if not, the second place of its refusal.
 pub struct Followed {
     pub holds: bool,
     pub next: usize,
+    pub second: usize,
 }
 
 // Each edge of node n, from `at` on.
@@ -319,7 +541,7 @@ fn edges_follow(
     requires { ⌜ LabelSettled (now m) (now g) n (now known) (now values) ⌝ }
     requires { ⌜ StateSettled (now m) (now g) n (now state) ⌝ }
     requires { ⌜ RowsLong (now known) (now values) (now state) ⌝ }
-    ensures { λ r. ⌜ (r .holds ≡ edgesFollow (modelOf (now (m .entry))) (simulationOf (modelOf (now (m .entry))) (now (g .entry))) n) × (r .holds ≡ true → r .next ≡ startsAt (modelOf (now (m .entry))) (now (g .entry)) (n + 1)) ⌝ }
+    ensures { λ r. ⌜ (r .holds ≡ edgesFollow (modelOf (now (m .entry))) (simulationOf (modelOf (now (m .entry))) (now (g .entry))) n) × (r .holds ≡ true → r .next ≡ startsAt (modelOf (now (m .entry))) (now (g .entry)) (n + 1)) × (r .holds ≡ false → r .second ≡ second21 (modelOf (now (m .entry))) (simulationOf (modelOf (now (m .entry))) (now (g .entry))) n) ⌝ }
 {
     let vars = graph::variable_count(m);
     let cs = folder::body(m, 3);
@@ -333,19 +555,28 @@ fn edges_follow(
         let c = folder::u16_at(eb, p);
         let branches = folder::field(4, cs, c, 1);
         let first = firsts[c];
-        if branches_follow(vars, nb, bs, known, values, state, eb, first, branches, p) {
-            p += 2 + 2 * branches;
-            e += 1;
-        } else {
+        let edge = Edge {
+            at: p,
+            first,
+            branches,
+        };
+        let b = first_bad_branch(vars, nb, bs, known, values, state, eb, edge);
+        if b < branches {
+            let s = folder::u16_at(eb, p + 2 + 2 * b);
+            let second = apart_by(vars, nb, bs, known, values, state, first + b, s);
             return Followed {
                 holds: false,
                 next: p,
+                second,
             };
         }
+        p += 2 + 2 * branches;
+        e += 1;
     }
     Followed {
         holds: true,
         next: p,
+        second: 0,
     }
 }
 
@@ -366,7 +597,7 @@ pub fn b2(
     requires { ⌜ LabelSettled (now m) (now g) n (now known) (now values) ⌝ }
     requires { ⌜ StateSettled (now m) (now g) n (now state) ⌝ }
     requires { ⌜ RowsLong (now known) (now values) (now state) ⌝ }
-    ensures { λ r. ⌜ (r .holds ≡ B2 (modelOf (now (m .entry))) (simulationOf (modelOf (now (m .entry))) (now (g .entry))) n) × (r .holds ≡ true → r .next ≡ startsAt (modelOf (now (m .entry))) (now (g .entry)) (n + 1)) ⌝ }
+    ensures { λ r. ⌜ (r .holds ≡ B2 (modelOf (now (m .entry))) (simulationOf (modelOf (now (m .entry))) (now (g .entry))) n) × (r .holds ≡ true → r .next ≡ startsAt (modelOf (now (m .entry))) (now (g .entry)) (n + 1)) × (r .holds ≡ false → r .second ≡ second21 (modelOf (now (m .entry))) (simulationOf (modelOf (now (m .entry))) (now (g .entry))) n) ⌝ }
 {
     if node_field(m, g, n, 0) == EXPANDED {
         edges_follow(m, g, n, at, firsts, known, values, state)
@@ -374,6 +605,7 @@ pub fn b2(
         Followed {
             holds: true,
             next: at,
+            second: 0,
         }
     }
 }

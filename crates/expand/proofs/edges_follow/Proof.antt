@@ -1,18 +1,18 @@
-use Prim.Native.Nat.{_-_, _≤_}
-use mathlib.Core.Path.{_≡_, ap, _∙_}
+use Prim.Native.Nat.{_+_, _*_, _-_, _^_, _<_, _≤_}
+use mathlib.Core.Path.{_≡_, refl, sym, ap, _∙_}
 use mathlib.Core.Bool.{false≢true}
 use native.Mathlib.Omega.{arith}
 use denote.Ref.{now}
 use borrow.Author.Needs.{needs}
-use Rattle.folder.specs.Scan.{all}
-use Rattle.folder.proofs.ScanLaws.{Scanned, scan-start, scan-next, all-fails, all-pass}
+use Rattle.folder.specs.Scan.{firstBad, all}
+use Rattle.folder.proofs.ScanLaws.{Scanned, scan-start, scan-next, scan-found, all-fails, all-pass}
 use Rattle.model.specs.Model.{modelOf}
 use Rattle.graph.specs.Limits.{mostBytes}
 use Rattle.graph.specs.Simulation.{edgeAt, simulationOf}
 use Rattle.graph.specs.Rules.{edgeFollows}
 use Rattle.graph.proofs.EdgePlaces.{place-start, place-over}
 use Rattle.expand.proofs.Sizes.{cursor-small}
-use Rattle.expand.proofs.FollowLaws.{EdgeRead, Held, next-stands, first-there, all-lead, records-fit, edge-tested}
+use Rattle.expand.proofs.FollowLaws.{EdgeRead, Held, next-stands, first-there, all-lead, records-fit, edge-passes, edge-breaks, second-found}
 use Rattle.expand.proofs.edges_follow.Statement.{statement}
 use Rattle.expand.proofs.edges_follow.Tie as tie
 
@@ -62,37 +62,55 @@ u16-at-requires c κs = omega (arith, cursor (c .before))
 shared-slice-read-first : tie.Need-shared-slice-read-first Inv-loop μ-loop
 shared-slice-read-first c = let s = start (loop-of (c .before)) in first-there (s .pre .0) (read (c .before)) (s .pre .1 .1 .0)
 
-branches-follow-requires : tie.Need-branches-follow-requires Inv-loop μ-loop
-branches-follow-requires c κs =
+first-bad-branch-requires : tie.Need-first-bad-branch-requires Inv-loop μ-loop
+first-bad-branch-requires c κs =
     let l = loop-of (c .before) in
     let s = start l in (
       (l .before .before .before .before .before .before .variable-count .ensures .1, records-fit (s .pre .0) (read (c .before)) (s .pre .1 .1 .0), omega (arith, cursor l)),
       (all-lead (s .pre .0) (read (c .before)) (s .pre .1 .1 .0) (held l), s .pre .1 .1 .1 .1 .1),
     )
 
+-- the successor that does not follow is read from within the edges
+successor-near : (c : tie.Then1 Inv-loop μ-loop) → c .before .before .before .before .before .before .loop .p + 2 + 2 * c .before .first-bad-branch .result < 2 ^ 40
+successor-near c = omega (arith, cursor (c .before .before .before .before .before .before), c .if1 .taken, c .before .before .before .field .ensures .1)
+
+add-apart-by : tie.Need-add-apart-by Inv-loop μ-loop
+add-apart-by c =
+    let s = start (c .before .before .before .before .before .before .before) in
+    omega (arith, records-fit (s .pre .0) (read (c .before .before .before .before)) (s .pre .1 .1 .0), c .before .if1 .taken)
+
+apart-by-requires : tie.Need-apart-by-requires Inv-loop μ-loop
+apart-by-requires c κs =
+    let l = c .before .before .before .before .before .before .before in
+    let s = start l in
+    let k = records-fit (s .pre .0) (read (c .before .before .before .before)) (s .pre .1 .1 .0) in (
+      (l .before .before .before .before .before .before .variable-count .ensures .1, omega (arith, k, c .before .if1 .taken), omega (arith, c .u16-at2 .ensures .1)),
+      (rw (c .u16-at2 .ensures .0) (all-lead (s .pre .0) (read (c .before .before .before .before)) (s .pre .1 .1 .0) (held l) .each _ (c .before .if1 .taken)), s .pre .1 .1 .1 .1 .1),
+    )
+
+returns : tie.Need-returns Inv-loop μ-loop
+returns c =
+    let f = c .before .before .before .before .before in
+    let l = loop-of f in
+    let s = start l in
+    let q = c .before .before .before .first-bad-branch .ensures in
+    let b = edge-breaks (s .pre .0) (read f) (s .pre .1 .1 .0) (s .pre .1 .1 .1 .0) (s .pre .1 .1 .1 .1 .0) (held l) q (c .before .before .if1 .taken) in (
+      all-fails (l .loop .inv .0) (f .before .before .loop-test .taken) b refl ∙ ap (all _) (l .before .node-field .ensures .0),
+      (λ h. absurd (false≢true h)),
+      λ h. second-found (s .pre .0) (read f) (s .pre .1 .1 .0) (s .pre .1 .1 .1 .0) (s .pre .1 .1 .1 .1 .0) (held l) q (c .before .before .if1 .taken)
+          (scan-found (l .loop .inv .0) (f .before .before .loop-test .taken) b refl ∙ ap (firstBad _) (l .before .node-field .ensures .0)) (c .before .u16-at2 .ensures .0) (c .apart-by .ensures),
+    )
+
 add-p-2 : tie.Need-add-p-2 Inv-loop μ-loop
-add-p-2 c = let f = c .before .before .before in omega (arith, cursor (loop-of f), f .field .ensures .1)
+add-p-2 c = omega (arith, cursor (c .before .before .before .before .before .before), c .before .before .before .field .ensures .1)
 
 loop-again : tie.Need-loop-again Inv-loop μ-loop
 loop-again c =
     let f = c .before .before .before in
     let l = loop-of f in
-    let s = start l in (
-      scan-next (l .loop .inv .0) (f .before .before .loop-test .taken)
-          (edge-tested (s .pre .0) (read f) (s .pre .1 .1 .0) (s .pre .1 .1 .1 .0) (s .pre .1 .1 .1 .1 .0) (held l) (c .before .branches-follow .ensures)) (c .if1 .taken),
-      next-stands (s .pre .0) (read f),
-    )
-
-returns : tie.Need-returns Inv-loop μ-loop
-returns c =
-    let f = c .before .before .before in
-    let l = loop-of f in
-    let s = start l in (
-      all-fails (l .loop .inv .0) (f .before .before .loop-test .taken)
-          (edge-tested (s .pre .0) (read f) (s .pre .1 .1 .0) (s .pre .1 .1 .1 .0) (s .pre .1 .1 .1 .1 .0) (held l) (c .before .branches-follow .ensures)) (c .if1 .left)
-          ∙ ap (all _) (l .before .node-field .ensures .0),
-      λ h. absurd (false≢true h),
-    )
+    let s = start l in
+    let a = edge-passes (s .pre .0) (read f) (s .pre .1 .1 .0) (s .pre .1 .1 .1 .0) (s .pre .1 .1 .1 .1 .0) (held l) (c .before .first-bad-branch .ensures) (c .if1 .left) in
+    (scan-next (l .loop .inv .0) (f .before .before .loop-test .taken) a refl, next-stands (s .pre .0) (read f))
 
 -- the cursor is past the last edge
 returns-2 : tie.Need-returns-2 Inv-loop μ-loop
@@ -100,7 +118,7 @@ returns-2 c =
     let l = c .before in
     let k = l .before .node-field .ensures .0 in
     let q : l .loop .e ≡ l .before .node-field .result = omega (arith, l .loop .inv .0 .within) in
-    (all-pass (l .loop .inv .0) (c .loop-test .left) ∙ ap (all _) k, λ h. place-over _ _ _ (l .loop .inv .1 ∙ ap (edgeAt _ _ _) (q ∙ k)))
+    (all-pass (l .loop .inv .0) (c .loop-test .left) ∙ ap (all _) k, (λ h. place-over _ _ _ (l .loop .inv .1 ∙ ap (edgeAt _ _ _) (q ∙ k))), λ h. absurd (false≢true (sym h)))
 
 pub edges-follow-spec : {M : Type 1} → statement M
 edges-follow-spec =
@@ -119,12 +137,18 @@ edges-follow-spec =
     (λ c κs. search needs)
     (λ c. search needs)
     shared-slice-read-first
-    branches-follow-requires
+    first-bad-branch-requires
+    (λ c. omega (arith, successor-near c))
+    (λ c. omega (arith, successor-near c))
+    (λ c. omega (arith, successor-near c))
+    (λ c κs. omega (arith, successor-near c))
+    add-apart-by
+    apart-by-requires
+    returns
     (λ c. search needs)
     (λ c. search needs)
     add-p-2
     (λ c. search needs)
     (λ c. search needs)
     loop-again
-    returns
     returns-2)
