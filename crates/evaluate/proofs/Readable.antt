@@ -3,18 +3,20 @@
 -- Assumes nothing.
 use Prim.Native.Nat.{ℕ, _<_, _≤_}
 use mathlib.Core.Path.{_≡_, sym, _∙_, subst}
-use mathlib.Core.Bool.{Bool, true, false}
+use mathlib.Core.Bool.{true}
 use mathlib.Core.List.{List}
 use native.Mathlib.Decide.{decLt}
 use native.Mathlib.Omega.{arith}
 use borrow.Author.Tests.{le-ltb}
+use lib.ListN.{getD}
 use lib.IntN.{ℤ, pos}
 use Rattle.folder.proofs.PickLaws.{pick-by, pick-all}
-use Rattle.expressions.specs.Limits.{allTracked}
+use Rattle.expressions.specs.Limits.{noVariable, allTracked}
 use Rattle.expressions.specs.Entries.{Entries, numberForm, truthForm}
 use Rattle.expressions.specs.Levels.{numberAt, truthAt}
 use Rattle.expressions.specs.Meaning.{State, valueOf, numberIn, truthIn}
-use Rattle.expressions.specs.Reading.{knownTruth, hasBit, lookIn, reading, readNumber, readTruth, isTrue}
+use Rattle.expressions.specs.Mentions.{missing, carryT, truthReading}
+use Rattle.expressions.specs.Reading.{hasBit, lookIn, reading, readNumber, readTruth, isTrue}
 use Rattle.expressions.specs.Ranges.{span, rangeOf, limits}
 use Rattle.expressions.specs.Rules.{deepest, depthOf}
 use Rattle.expressions.specs.Right.{IsNumber, IsTruth, Inside}
@@ -22,13 +24,17 @@ use Rattle.expressions.specs.Parts.{Lower}
 use Rattle.expressions.specs.declared.Number.{Number}
 use Rattle.expressions.specs.declared.Number.the-variants.{Known, Unknown as Open}
 use Rattle.expressions.specs.declared.Truth.the-variants.{Unknown}
+use Rattle.expressions.specs.declared.TruthReading.the-variants.{Lacks}
 use Rattle.expressions.specs.declared.Range.{Range}
 use Rattle.expressions.proofs.Bits.{each-tracked}
 use Rattle.expressions.proofs.Interval.{In}
 use Rattle.expressions.proofs.Levels.{lower, truth-deep}
+use Rattle.expressions.proofs.Mentions.{past-mentions}
+use Rattle.expressions.proofs.Missing.{none-missing, never-known}
 use Rattle.expressions.proofs.Small.{InN, in-range-at, small}
 use Rattle.expressions.proofs.Sound.{Says, number-sound, truth-sound, known-is, is-true}
 use Rattle.expressions.proofs.Whole.{whole-number, whole-truth}
+use Rattle.mentions.specs.Masked.{Masked}
 use Rattle.evaluate.specs.Bounded.{Bounded}
 use Rattle.evaluate.specs.Formed.{Formed, Values, Ready, Grounded}
 
@@ -80,6 +86,20 @@ module _ (x : Entries) (t : ℕ) (v : List ℤ) (ready : Ready x t v) where
   unfolding readTruth
   truth-enough e = let f = ready .formed in truth-deep (reading (lookIn t v)) x (parts-lower x _ _ f) deepest e (shallow x _ _ f e)
 
+-- ---- a label, with the variables that readings lack
+module _ (x : Entries) (vars : ℕ) where
+  pub truth-lacking : (masks : List ℕ) (t : ℕ) (v : List ℤ) → Ready x t v → Masked x (x .count) masks → (e : ℕ) → e < x .count
+      → carryT (missing vars (getD masks e 0) t) (truthAt (reading (lookIn t v)) x deepest e) ≡ truthReading x vars t v e
+  truth-lacking masks t v ready masked e l = rw (masked .is e l, truth-enough x t v ready e)
+
+  -- An entry past the last is of no form, so that it reads unknown and mentions nothing.
+  past-read : (look : ℕ → Number) (e : ℕ) → x .count ≤ e → readTruth x look e ≡ Unknown
+  unfolding readTruth truthAt truthForm
+  past-read look e l = rw (le-ltb e (x .count) l)
+
+  pub past-lacking : (t : ℕ) (v : List ℤ) (e : ℕ) → x .count ≤ e → Lacks noVariable ≡ truthReading x vars t v e
+  past-lacking t v e l = rw (past-read (lookIn t v) e l, past-mentions x e l, none-missing vars t)
+
 -- ---- a state
 module _ (x : Entries) (s : State) (grounded : Grounded x s) where
   pub ready : Ready x allTracked s
@@ -109,11 +129,7 @@ module _ (x : Entries) (s : State) (grounded : Grounded x s) where
         omega arith
 
     truth-open : IsTruth x e → readTruth x (lookIn allTracked s) e ≡ Unknown → ⊥
-    truth-open n h = let w = whole-truth x (grounded .variables) (grounded .formed .right) (lookIn allTracked s) told e n in go (w .0) (sym h ∙ w .1)
-      where
-        go : (b : Bool) → Unknown ≡ knownTruth b → ⊥
-        go true k = let j : _≡_ {A = ℕ} 0 1 = cc in omega arith
-        go false k = let j : _≡_ {A = ℕ} 0 1 = cc in omega arith
+    truth-open n h = let w = whole-truth x (grounded .variables) (grounded .formed .right) (lookIn allTracked s) told e n in never-known (w .0) (sym h ∙ w .1)
 
     -- No truth reads unknown in a state, so that one that does not read true is false.
     pub truth-is : IsTruth x e → isTrue (readTruth x (lookIn allTracked s) e) ≡ truthIn x s e

@@ -11,7 +11,8 @@ ghost use Rattle.whole.specs.Limits.{farthest};
 ghost use Rattle.expressions.specs.Entries.{entriesOf};
 ghost use Rattle.expressions.specs.Levels.{numberAt, truthAt};
 ghost use Rattle.expressions.specs.Meaning.{truthIn};
-ghost use Rattle.expressions.specs.Mentions.{carryN, carryT, missing};
+ghost use Rattle.expressions.specs.Mentions.{missing, carryN, carryT, plainN, plainT, truthReading};
+ghost use Rattle.mentions.specs.Masked.{Masked};
 ghost use Rattle.expressions.specs.Operations.{arithZ, relates};
 ghost use Rattle.expressions.specs.Reading.{arithN, chooseN, compareN, notT, andT, orT, joinT, lookIn, reading, readNumber, readTruth, isTrue};
 ghost use Rattle.expressions.specs.Right.{IsTruth};
@@ -22,6 +23,7 @@ use expressions::ALL_TRACKED;
 use expressions::Arith;
 use expressions::DEEPEST;
 use expressions::Join;
+use expressions::NO_VARIABLE;
 use expressions::Number;
 use expressions::NumberForm;
 use expressions::NumberReading;
@@ -192,65 +194,115 @@ fn carry_truth(r: Truth, vars: usize, masks: &[u16], t: usize, e: usize) -> Trut
     }
 }
 
+// The reading alone.
+fn plain_number(r: NumberReading) -> Number
+    ensures { λ a. ⌜ a ≡ plainN r ⌝ }
+{
+    match r {
+        NumberReading::Known(z) => Number::Known(z),
+        NumberReading::Lacks(_) => Number::Unknown,
+    }
+}
+
+fn plain_truth(r: TruthReading) -> Truth
+    ensures { λ a. ⌜ a ≡ plainT r ⌝ }
+{
+    match r {
+        TruthReading::True => Truth::True,
+        TruthReading::False => Truth::False,
+        TruthReading::Lacks(_) => Truth::Unknown,
+    }
+}
+
 // How entry e of the body x reads in the label with the set t and the values v, with `left` levels to go. The evaluators
-// of numbers and of truths call each other; the levels left fall.
-pub fn read_number(x: &[u8], t: usize, v: &[i64], e: usize, left: usize) -> Number
+// of numbers and of truths call each other; the levels left fall. What an unknown part lacks is not asked: the entry lacks
+// the lowest variable that it mentions anywhere, also in a part that is known.
+pub fn read_number(
+    x: &[u8],
+    vars: usize,
+    masks: &[u16],
+    t: usize,
+    v: &[i64],
+    e: usize,
+    left: usize,
+) -> NumberReading
     requires { ⌜ Bounded (entriesOf (now x)) (lookIn t (now v)) ⌝ }
     requires { ⌜ e ≤ fieldLimit ⌝ }
-    ensures { λ r. ⌜ r ≡ numberAt (reading (lookIn t (now (v .entry)))) (entriesOf (now (x .entry))) left e ⌝ }
+    ensures { λ r. ⌜ r ≡ carryN (missing vars (getD (now (masks .entry)) e 0) t) (numberAt (reading (lookIn t (now (v .entry)))) (entriesOf (now (x .entry))) left e) ⌝ }
 {
     if left == 0 {
-        return Number::Unknown;
+        return carry_number(Number::Unknown, vars, masks, t, e);
     }
     let n = left - 1;
     let f = expressions::number_form(x, e);
     match f {
-        NumberForm::Constant(z) => Number::Known(z),
-        NumberForm::Variable(i) => look_in(t, v, i),
+        NumberForm::Constant(z) => NumberReading::Known(z),
+        NumberForm::Variable(i) => carry_number(look_in(t, v, i), vars, masks, t, e),
         NumberForm::Binary(k, p, q) => {
-            combine(k, read_number(x, t, v, p, n), read_number(x, t, v, q, n))
+            let a = plain_number(read_number(x, vars, masks, t, v, p, n));
+            let b = plain_number(read_number(x, vars, masks, t, v, q, n));
+            carry_number(combine(k, a, b), vars, masks, t, e)
         }
         NumberForm::If(c, p, q) => {
-            choose(
-                read_truth(x, t, v, c, n),
-                read_number(x, t, v, p, n),
-                read_number(x, t, v, q, n),
-            )
+            let u = plain_truth(read_truth(x, vars, masks, t, v, c, n));
+            let a = plain_number(read_number(x, vars, masks, t, v, p, n));
+            let b = plain_number(read_number(x, vars, masks, t, v, q, n));
+            carry_number(choose(u, a, b), vars, masks, t, e)
         }
-        NumberForm::NoNumber => Number::Unknown,
+        NumberForm::NoNumber => carry_number(Number::Unknown, vars, masks, t, e),
     }
 }
 
-pub fn read_truth(x: &[u8], t: usize, v: &[i64], e: usize, left: usize) -> Truth
+pub fn read_truth(
+    x: &[u8],
+    vars: usize,
+    masks: &[u16],
+    t: usize,
+    v: &[i64],
+    e: usize,
+    left: usize,
+) -> TruthReading
     requires { ⌜ Bounded (entriesOf (now x)) (lookIn t (now v)) ⌝ }
     requires { ⌜ e ≤ fieldLimit ⌝ }
-    ensures { λ r. ⌜ r ≡ truthAt (reading (lookIn t (now (v .entry)))) (entriesOf (now (x .entry))) left e ⌝ }
+    ensures { λ r. ⌜ r ≡ carryT (missing vars (getD (now (masks .entry)) e 0) t) (truthAt (reading (lookIn t (now (v .entry)))) (entriesOf (now (x .entry))) left e) ⌝ }
 {
     if left == 0 {
-        return Truth::Unknown;
+        return carry_truth(Truth::Unknown, vars, masks, t, e);
     }
     let n = left - 1;
     let f = expressions::truth_form(x, e);
     match f {
         TruthForm::Compare(k, p, q) => {
-            compare(k, read_number(x, t, v, p, n), read_number(x, t, v, q, n))
+            let a = plain_number(read_number(x, vars, masks, t, v, p, n));
+            let b = plain_number(read_number(x, vars, masks, t, v, q, n));
+            carry_truth(compare(k, a, b), vars, masks, t, e)
         }
-        TruthForm::Not(p) => negate(read_truth(x, t, v, p, n)),
+        TruthForm::Not(p) => {
+            let a = plain_truth(read_truth(x, vars, masks, t, v, p, n));
+            carry_truth(negate(a), vars, masks, t, e)
+        }
         TruthForm::Joined(k, p, q) => {
-            joined(k, read_truth(x, t, v, p, n), read_truth(x, t, v, q, n))
+            let a = plain_truth(read_truth(x, vars, masks, t, v, p, n));
+            let b = plain_truth(read_truth(x, vars, masks, t, v, q, n));
+            carry_truth(joined(k, a, b), vars, masks, t, e)
         }
-        TruthForm::Always => Truth::True,
-        TruthForm::NoTruth => Truth::Unknown,
+        TruthForm::Always => TruthReading::True,
+        TruthForm::NoTruth => carry_truth(Truth::Unknown, vars, masks, t, e),
     }
 }
 
-// How entry e reads as a truth: no expression is deeper than `DEEPEST`.
-pub fn truth_at(x: &[u8], t: usize, v: &[i64], e: usize) -> Truth
+// How entry e reads as a truth: no expression is deeper than `DEEPEST`, and an entry past the last mentions nothing.
+pub fn truth_at(x: &[u8], vars: usize, masks: &[u16], t: usize, v: &[i64], e: usize) -> TruthReading
     requires { ⌜ Ready (entriesOf (now x)) t (now v) ⌝ }
+    requires { ⌜ Masked (entriesOf (now x)) (countOf 8 (now x)) (now masks) ⌝ }
     requires { ⌜ e ≤ fieldLimit ⌝ }
-    ensures { λ r. ⌜ r ≡ readTruth (entriesOf (now (x .entry))) (lookIn t (now (v .entry))) e ⌝ }
+    ensures { λ r. ⌜ r ≡ truthReading (entriesOf (now (x .entry))) vars t (now (v .entry)) e ⌝ }
 {
-    read_truth(x, t, v, e, DEEPEST)
+    if e < folder::count_of(8, x) {
+        read_truth(x, vars, masks, t, v, e, DEEPEST)
+    } else {
+        TruthReading::Lacks(NO_VARIABLE)
+    }
 }
 
 // Whether a truth reads true: an unknown one does not.
@@ -264,14 +316,15 @@ fn is_true(t: Truth) -> bool
     }
 }
 
-// Whether entry e holds in the state s, which is the label that tracks every variable.
+// Whether entry e holds in the state s, which is the label that tracks every variable: none is missing, so that none is
+// looked for.
 pub fn truth_in(x: &[u8], s: &[i64], e: usize) -> bool
     requires { ⌜ Grounded (entriesOf (now x)) (now s) ⌝ }
     requires { ⌜ IsTruth (entriesOf (now x)) e ⌝ }
     requires { ⌜ e ≤ fieldLimit ⌝ }
     ensures { λ r. ⌜ r ≡ truthIn (entriesOf (now (x .entry))) (now (s .entry)) e ⌝ }
 {
-    is_true(truth_at(x, ALL_TRACKED, s, e))
+    is_true(plain_truth(read_truth(x, 0, &[], ALL_TRACKED, s, e, DEEPEST)))
 }
 
 // The readings of all entries in one label, as two rows: `known` has 1 for an entry that reads known, else 0, and `values`
