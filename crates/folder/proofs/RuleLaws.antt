@@ -37,7 +37,7 @@ pub data Numbered : List Rule → Type 0 where
 
 -- What the code found, of which the number says whether one is broken.
 module _ {r : Cause} where
-  broken-number : (k s : ℕ) → r ≡ cause (suc k) s → r .number ≡ 0 → ⊥
+  pub broken-number : (k s : ℕ) → r ≡ cause (suc k) s → r .number ≡ 0 → ⊥
   broken-number k s e z = let q : suc k ≡ 0 = sym (ap (λ (c : Cause). c .number) e) ∙ z in omega arith
 
   pub then-rules : {xs : List Rule} (ys : List Rule) → Numbered xs → r ≡ firstBroken xs → r .number ≡ 0 → firstBroken (xs ++ ys) ≡ firstBroken ys

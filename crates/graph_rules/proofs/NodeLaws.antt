@@ -6,11 +6,14 @@ use mathlib.Core.Path.{_≡_, refl, ap, _∙_}
 use mathlib.Core.List.{List}
 use lib.ListN.{length, getD, replicate, length-replicate}
 use borrow.Author.Tests.{ne-eqb}
-use Rattle.folder.specs.Table.{firstBroken}
-use Rattle.folder.specs.Contents.{body}
+use Rattle.folder.specs.Table.{cause, firstBroken}
+use Rattle.folder.specs.Contents.{body, countOf}
 use Rattle.model.specs.Layout.{variableCount}
 use Rattle.model.specs.Model.{modelOf}
 use Rattle.model.specs.Valid.{Valid}
+use Rattle.model.proofs.Limits.{limits}
+use Rattle.expressions.specs.Entries.{entriesOf}
+use Rattle.expressions.specs.Mentions.{mentions}
 use Rattle.graph.specs.Limits.{mostNodes}
 use Rattle.graph.specs.Simulation.{nodeSize, nodeField, nodeCount, simulationOf}
 use Rattle.graph.specs.Rules.{A2, B1, B2}
@@ -23,7 +26,9 @@ use Rattle.folder.specs.Tab.{fill}
 use Rattle.folder.proofs.FillLaws.{getD-everywhere, length-fill}
 use Rattle.folder.proofs.ContentsLaws.{field4-past}
 use Rattle.labels.specs.Values.{ValueReady}
-use Rattle.expand.specs.Node.{NodeOf, FirstsOf}
+use Rattle.mentions.specs.Masked.{Written}
+use Rattle.mentions.proofs.Masks.{masked}
+use Rattle.expand.specs.Node.{NodeOf, FirstsOf, MasksOf}
 use Rattle.graph_rules.specs.Ready.{RulesReady, readingRules}
 use Rattle.folder.proofs.RuleLaws.{Numbered, none, more}
 
@@ -35,7 +40,7 @@ module _ (m g : List ℕ) (n : ℕ) where
   node-numbered = more 17 (more 18 (more 19 (more 20 (more 21 (more 22 (more 23 (more 24 none)))))))
 
 -- A2, B1 and B2 ask nothing of a node that is neither expanded nor a target.
-pub nothing-asked : (m g : List ℕ) (n : ℕ) {kind : ℕ} → kind ≡ nodeField (modelOf m) g n 0 → (kind ≡ 1 → ⊥) → (kind ≡ 3 → ⊥) → 0 ≡ firstBroken (readingRules m g n)
+pub nothing-asked : (m g : List ℕ) (n : ℕ) {kind : ℕ} → kind ≡ nodeField (modelOf m) g n 0 → (kind ≡ 1 → ⊥) → (kind ≡ 3 → ⊥) → cause 0 0 ≡ firstBroken (readingRules m g n)
 unfolding A2 B1 B2 firstBroken
 nothing-asked m g n e a b = rw (ne-eqb (nodeField (modelOf m) g n 0) 1 (λ q. a (e ∙ q)), ne-eqb (nodeField (modelOf m) g n 0) 3 (λ q. b (e ∙ q))) refl
 
@@ -77,3 +82,10 @@ ready-of {m} {g} {values} valid rows tables e = record {
   long = omega (arith, ap length e, length-fill (nodeCount (modelOf m) g) (simulationOf (modelOf m) g .value) (replicate mostNodes 0) (omega (arith, rows .folder .few, length-replicate {A = ℕ} mostNodes 0)), length-replicate {A = ℕ} mostNodes 0, rows .folder .few);
   valued = values-there m g rows mostNodes e;
 }
+
+-- The row of what each entry mentions.
+pub written-of : {m b : List ℕ} → Valid m → b ≡ body m 2 → Written (entriesOf b)
+written-of {m} valid e = rw e (record { variables = modelOf m .variables; few = limits (valid .folder) .variables; right = valid .model .entries })
+
+pub masks-of : (m row : List ℕ) {b masks : List ℕ} → b ≡ body m 2 → masks ≡ fill (countOf 8 b) (mentions (entriesOf b)) row → MasksOf m masks
+masks-of m row e h = masked (entriesOf (body m 2)) (countOf 8 (body m 2)) row (rw (← e) h)

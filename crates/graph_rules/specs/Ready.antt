@@ -4,11 +4,12 @@ use Prim.Native.Nat.{ℕ, _≤_}
 use mathlib.Core.Path.{_≡_}
 use mathlib.Core.List.{List, [], _∷_}
 use lib.ListN.{length, getD}
-use Rattle.folder.specs.Table.{Rule, rule}
+use Rattle.folder.specs.Table.{Rule, rule, ruleAt}
 use Rattle.model.specs.Model.{Model, modelOf}
 use Rattle.model.specs.Valid.{Valid}
 use Rattle.graph.specs.Simulation.{Simulation, nodeCount, simulationOf}
 use Rattle.graph.specs.Rules.{A2, B1, B2, C3, C1, C2, valueRule}
+use Rattle.graph.specs.Seconds.{second19, second21}
 use Rattle.graph.specs.Valid.{RowsRight}
 use Rattle.sums.specs.Tables.{Tables}
 
@@ -29,7 +30,7 @@ module _ (m g : List ℕ) (n : ℕ) where
   G = simulationOf M g
 
   abbrev pub readingRules : List Rule
-  readingRules = rule 19 (A2 M G n) ∷ rule 20 (B1 M G n) ∷ rule 21 (B2 M G n) ∷ []
+  readingRules = ruleAt 19 (A2 M G n) (second19 M G n) ∷ rule 20 (B1 M G n) ∷ ruleAt 21 (B2 M G n) (second21 M G n) ∷ []
 
   abbrev pub coverRules : List Rule
   coverRules = rule 22 (C3 M G n) ∷ rule 23 (C1 M G n) ∷ rule 24 (C2 M G n) ∷ rule 25 (valueRule M G (G .value) n) ∷ []

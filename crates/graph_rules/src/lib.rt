@@ -1,6 +1,7 @@
 // The graph check of an accepted model: rows 18 to 25 after rows 12 to 17, the rules of each node finished before the
 // next one's; and what an accepted graph has.
 use expressions::MOST_EXPRESSIONS;
+use folder::Cause;
 use folder::Outcome;
 use graph::EXPANDED;
 use graph::MOST_NODES;
@@ -11,7 +12,9 @@ use model::MOST_RECORDS;
 ghost use mathlib.Core.Path.{_≡_};
 ghost use mathlib.Core.Bool.{true};
 ghost use Prim.Native.Nat.{_+_, _≤_};
-ghost use Rattle.folder.specs.Table.{firstBroken, outcome};
+ghost use lib.ListN.{drop, length};
+ghost use Rattle.folder.specs.Table.{cause, firstBroken, outcome};
+ghost use Rattle.model.specs.Limits.{mostExpressions};
 ghost use Rattle.model.specs.Model.{modelOf};
 ghost use Rattle.model.specs.Valid.{Valid};
 ghost use Rattle.graph.specs.Limits.{mostNodes};
@@ -20,74 +23,93 @@ ghost use Rattle.graph.specs.Rules.{A1};
 ghost use Rattle.graph.specs.Table.{nodeRules, ruleRows, graphRows, summary};
 ghost use Rattle.graph.specs.Valid.{RowsRight};
 ghost use Rattle.graph.specs.Walks.{startsAt};
-ghost use Rattle.expand.specs.Node.{NodeOf, FirstsOf};
+ghost use Rattle.expand.specs.Node.{NodeOf, LabelSettled, FirstsOf, MasksOf};
 ghost use Rattle.graph_rules.specs.Ready.{RulesReady, readingRules, coverRules};
 
-// Of a node: the number of its first broken rule, or 0; and if none is broken, where the next node's edges start.
+// Of a node: its first broken rule; and if none is broken, where the next node's edges start.
 struct Ruled {
-    broken: usize,
+    broken: Cause,
     next: usize,
 }
 
-// A2, B1 and B2 of a node that keeps A1, from its readings: the number of the first broken one, or 0.
-fn settled_rules(m: &[u8], g: &[u8], n: usize, at: usize, firsts: &[usize]) -> Ruled
+fn ruling(number: usize, second: usize, next: usize) -> Ruled
+    ensures { λ r. ⌜ (r .broken ≡ cause number second) × (r .next ≡ next) ⌝ }
+{
+    let broken = Cause { number, second };
+    Ruled { broken, next }
+}
+
+// B2 of a node, from its readings; its concrete state is read here.
+fn successor_rule(
+    m: &[u8],
+    g: &[u8],
+    n: usize,
+    at: usize,
+    firsts: &[usize],
+    known: &[u8],
+    values: &[i64],
+) -> Ruled
+    requires { ⌜ NodeOf (now m) (now g) n ⌝ }
+    requires { ⌜ at ≡ startsAt (modelOf (now m)) (now g) n ⌝ }
+    requires { ⌜ FirstsOf (now m) (now firsts) ⌝ }
+    requires { ⌜ LabelSettled (now m) (now g) n (now known) (now values) ⌝ }
+    requires { ⌜ (mostExpressions ≤ length (now known)) × (mostExpressions ≤ length (now values)) ⌝ }
+    ensures { λ r. ⌜ (r .broken ≡ firstBroken (drop 2 (readingRules (now (m .entry)) (now (g .entry)) n))) × (r .broken .number ≡ 0 → r .next ≡ startsAt (modelOf (now (m .entry))) (now (g .entry)) (n + 1)) ⌝ }
+{
+    let mut flags = [0u8; MOST_EXPRESSIONS];
+    let mut state = [0i64; MOST_EXPRESSIONS];
+    expand::settle_state(m, g, n, &mut flags, &mut state);
+    let followed = expand::b2(m, g, n, at, firsts, known, values, &state);
+    if followed.holds {
+        return ruling(0, 0, followed.next);
+    }
+    ruling(21, followed.second, at)
+}
+
+// A2, B1 and B2 of a node that keeps A1, from its readings: the first broken one.
+fn settled_rules(m: &[u8], g: &[u8], n: usize, at: usize, firsts: &[usize], masks: &[u16]) -> Ruled
     requires { ⌜ NodeOf (now m) (now g) n ⌝ }
     requires { ⌜ A1 (modelOf (now m)) (simulationOf (modelOf (now m)) (now g)) n ≡ true ⌝ }
     requires { ⌜ at ≡ startsAt (modelOf (now m)) (now g) n ⌝ }
     requires { ⌜ FirstsOf (now m) (now firsts) ⌝ }
-    ensures { λ r. ⌜ (r .broken ≡ firstBroken (readingRules (now (m .entry)) (now (g .entry)) n)) × (r .broken ≡ 0 → r .next ≡ startsAt (modelOf (now (m .entry))) (now (g .entry)) (n + 1)) ⌝ }
+    requires { ⌜ MasksOf (now m) (now masks) ⌝ }
+    ensures { λ r. ⌜ (r .broken ≡ firstBroken (readingRules (now (m .entry)) (now (g .entry)) n)) × (r .broken .number ≡ 0 → r .next ≡ startsAt (modelOf (now (m .entry))) (now (g .entry)) (n + 1)) ⌝ }
 {
     let mut known = [0u8; MOST_EXPRESSIONS];
     let mut values = [0i64; MOST_EXPRESSIONS];
     expand::settle_label(m, g, n, &mut known, &mut values);
-    if !expand::a2(m, g, n, &known, &values) {
-        return Ruled {
-            broken: 19,
-            next: at,
-        };
+    let kept = expand::a2(m, g, n, &known, &values, masks);
+    if !kept.holds {
+        return ruling(19, kept.second, at);
     }
     if !expand::b1(m, g, n, at, &known, &values) {
-        return Ruled {
-            broken: 20,
-            next: at,
-        };
+        return ruling(20, 0, at);
     }
-    let mut flags = [0u8; MOST_EXPRESSIONS];
-    let mut state = [0i64; MOST_EXPRESSIONS];
-    expand::settle_state(m, g, n, &mut flags, &mut state);
-    let followed = expand::b2(m, g, n, at, firsts, &known, &values, &state);
-    let next = followed.next;
-    if followed.holds {
-        Ruled { broken: 0, next }
-    } else {
-        Ruled { broken: 21, next }
-    }
+    successor_rule(m, g, n, at, firsts, &known, &values)
 }
 
 // A2, B1 and B2. They ask something of expanded and target nodes only: other labels are not read, and such nodes have no
 // edges.
-fn reading_rules(m: &[u8], g: &[u8], n: usize, at: usize, firsts: &[usize]) -> Ruled
+fn reading_rules(m: &[u8], g: &[u8], n: usize, at: usize, firsts: &[usize], masks: &[u16]) -> Ruled
     requires { ⌜ NodeOf (now m) (now g) n ⌝ }
     requires { ⌜ A1 (modelOf (now m)) (simulationOf (modelOf (now m)) (now g)) n ≡ true ⌝ }
     requires { ⌜ at ≡ startsAt (modelOf (now m)) (now g) n ⌝ }
     requires { ⌜ FirstsOf (now m) (now firsts) ⌝ }
-    ensures { λ r. ⌜ (r .broken ≡ firstBroken (readingRules (now (m .entry)) (now (g .entry)) n)) × (r .broken ≡ 0 → r .next ≡ startsAt (modelOf (now (m .entry))) (now (g .entry)) (n + 1)) ⌝ }
+    requires { ⌜ MasksOf (now m) (now masks) ⌝ }
+    ensures { λ r. ⌜ (r .broken ≡ firstBroken (readingRules (now (m .entry)) (now (g .entry)) n)) × (r .broken .number ≡ 0 → r .next ≡ startsAt (modelOf (now (m .entry))) (now (g .entry)) (n + 1)) ⌝ }
 {
     let size = graph::node_size(graph::variable_count(m));
     let kind = folder::field(size, folder::body(g, 0), n, 0);
     if kind == EXPANDED {
-        return settled_rules(m, g, n, at, firsts);
+        return settled_rules(m, g, n, at, firsts, masks);
     }
     if kind == TARGET {
-        return settled_rules(m, g, n, at, firsts);
+        return settled_rules(m, g, n, at, firsts, masks);
     }
-    Ruled {
-        broken: 0,
-        next: at,
-    }
+    ruling(0, 0, at)
 }
 
-// C3, C1, C2 and the value rule.
+// C3, C1, C2 and the value rule: the number of the first broken one, or 0. None of them concerns one variable.
 fn cover_rules(
     m: &[u8],
     g: &[u8],
@@ -100,7 +122,7 @@ fn cover_rules(
     requires { ⌜ NodeOf (now m) (now g) n ⌝ }
     requires { ⌜ RulesReady (now m) (now g) (now values) (now weights) (now firsts) ⌝ }
     requires { ⌜ at ≡ startsAt (modelOf (now m)) (now g) n ⌝ }
-    ensures { λ r. ⌜ r ≡ firstBroken (coverRules (now (m .entry)) (now (g .entry)) n) ⌝ }
+    ensures { λ r. ⌜ cause r 0 ≡ firstBroken (coverRules (now (m .entry)) (now (g .entry)) n) ⌝ }
 {
     if !labels::c3(m, g, n) {
         return 22;
@@ -127,40 +149,46 @@ fn node_rules(
     values: &[u32],
     weights: &[usize],
     firsts: &[usize],
+    masks: &[u16],
 ) -> Ruled
     requires { ⌜ NodeOf (now m) (now g) n ⌝ }
     requires { ⌜ RulesReady (now m) (now g) (now values) (now weights) (now firsts) ⌝ }
+    requires { ⌜ MasksOf (now m) (now masks) ⌝ }
     requires { ⌜ at ≡ startsAt (modelOf (now m)) (now g) n ⌝ }
-    ensures { λ r. ⌜ (r .broken ≡ firstBroken (nodeRules (modelOf (now (m .entry))) (simulationOf (modelOf (now (m .entry))) (now (g .entry))) n)) × (r .broken ≡ 0 → r .next ≡ startsAt (modelOf (now (m .entry))) (now (g .entry)) (n + 1)) ⌝ }
+    ensures { λ r. ⌜ (r .broken ≡ firstBroken (nodeRules (modelOf (now (m .entry))) (simulationOf (modelOf (now (m .entry))) (now (g .entry))) n)) × (r .broken .number ≡ 0 → r .next ≡ startsAt (modelOf (now (m .entry))) (now (g .entry)) (n + 1)) ⌝ }
 {
     if !labels::a1(m, g, n) {
-        return Ruled {
-            broken: 18,
-            next: at,
-        };
+        return ruling(18, 0, at);
     }
-    let reading = reading_rules(m, g, n, at, firsts);
-    if reading.broken != 0 {
+    let reading = reading_rules(m, g, n, at, firsts, masks);
+    if reading.broken.number != 0 {
         return reading;
     }
-    let broken = cover_rules(m, g, n, at, values, weights, firsts);
-    let next = reading.next;
-    Ruled { broken, next }
+    let number = cover_rules(m, g, n, at, values, weights, firsts);
+    ruling(number, 0, reading.next)
 }
 
 // The rules of all nodes, with the tables they look in.
-fn all_nodes(m: &[u8], g: &[u8], values: &[u32], weights: &[usize], firsts: &[usize]) -> Outcome
+fn all_nodes(
+    m: &[u8],
+    g: &[u8],
+    values: &[u32],
+    weights: &[usize],
+    firsts: &[usize],
+    masks: &[u16],
+) -> Outcome
     requires { ⌜ RulesReady (now m) (now g) (now values) (now weights) (now firsts) ⌝ }
+    requires { ⌜ MasksOf (now m) (now masks) ⌝ }
     ensures { λ r. ⌜ r ≡ outcome (ruleRows (modelOf (now (m .entry))) (simulationOf (modelOf (now (m .entry))) (now (g .entry)))) ⌝ }
 {
     let nodes = graph::node_count(m, g);
     let mut n = 0;
     let mut at = 0;
     while n < nodes {
-        let ruled = node_rules(m, g, n, at, values, weights, firsts);
+        let ruled = node_rules(m, g, n, at, values, weights, firsts, masks);
         let broken = ruled.broken;
-        if broken != 0 {
-            return folder::refuse(broken, n);
+        if broken.number != 0 {
+            return folder::refuse_by(broken, n);
         }
         at = ruled.next;
         n += 1;
@@ -177,9 +205,11 @@ fn check_nodes(m: &[u8], g: &[u8]) -> Outcome
     let mut values = [0u32; MOST_NODES];
     let mut weights = [0usize; MOST_RECORDS];
     let mut firsts = [0usize; MOST_COMMANDS];
+    let mut masks = [0u16; MOST_EXPRESSIONS];
     labels::fill_values(m, g, &mut values);
     sums::fill_tables(m, &mut weights, &mut firsts);
-    all_nodes(m, g, &values, &weights, &firsts)
+    mentions::fill_mentions(folder::body(m, 2), &mut masks);
+    all_nodes(m, g, &values, &weights, &firsts, &masks)
 }
 
 // Rows 12 to 25 of a graph of an accepted model.
