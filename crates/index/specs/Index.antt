@@ -9,7 +9,7 @@ use lib.Dec.{leb, eqb}
 use lib.IntN.{ℤ}
 use Rattle.folder.specs.Pick.{pick}
 use Rattle.folder.specs.Tab.{fill}
-use Rattle.folder.specs.Table.{Row, row, outcome}
+use Rattle.folder.specs.Table.{places, noPlaces, Row, row, outcome}
 use Rattle.folder.specs.declared.Outcome.{Outcome}
 use Rattle.folder.specs.declared.Outcome.the-variants as O
 use Rattle.model.specs.Model.{Model, modelOf}
@@ -98,14 +98,14 @@ module _ (m g : List ℕ) (slots : List ℕ) (batch : List ℤ) (answers listing
   unfoldable pub listingRow : List ℕ
   listingRow = listingOf (modelOf m) (simulationOf (modelOf m) g) indexOutcome listing
 
--- The number of an answer, its place, and how many nodes are listed: 0 where there is none.
+-- The number of an answer, its two places, and how many nodes are listed: 0 where there is none.
 abbrev pub indexNumber : IndexAnswer → ℕ
 indexNumber (Accepted n) = 0
 indexNumber (Refused f) = f .number
 
-abbrev pub indexPlace : IndexAnswer → ℕ
-indexPlace (Accepted n) = 0
-indexPlace (Refused f) = f .place
+abbrev pub indexPlaces : IndexAnswer → List ℕ
+indexPlaces (Accepted n) = noPlaces
+indexPlaces (Refused f) = places f
 
 abbrev pub indexListed : IndexAnswer → ℕ
 indexListed (Accepted n) = n

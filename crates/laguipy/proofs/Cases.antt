@@ -1,4 +1,4 @@
--- Document 01's cases for proof hold: one fact, which the checker computes. Demand 3 of the pedal example is one instance.
+-- The cases for proof hold: one fact, which the checker computes. Demand 3 of the pedal example is one instance.
 -- Assumes nothing.
 use Prim.Native.Nat.{ℕ}
 use mathlib.Core.Path.{_≡_, refl, ap}
@@ -13,6 +13,7 @@ use Rattle.expressions.specs.Entries.{numberFormOf, truthFormOf, numberForm, tr
 use Rattle.expressions.specs.Levels.{numberAt, truthAt}
 use Rattle.whole.specs.Order.{minZ, maxZ, eqZ}
 use Rattle.expressions.specs.Reading.{hasBit, lookIn, readNumber, readTruth}
+use Rattle.expressions.specs.Mentions.{union, mentions, missing}
 use Rattle.expressions.specs.Ranges.{rangeOf, inside}
 use Rattle.expressions.specs.Rules.{depthOf, numberFits, truthFits, entryFits, rangeFits}
 use Rattle.model.specs.Layout.{recordSize, recordCount}
@@ -23,6 +24,7 @@ use Rattle.model.specs.Step as Step
 use Rattle.model.specs.Pedal.{pedalModel}
 use Rattle.graph.specs.Simulation.{edgeSize, edgeAfter, edgesStart, edgeWhole, edgeAt, kindOf}
 use Rattle.graph.specs.Rules.{nodesFit, headFits, valuesFit, nodeFits, edgeFits, edgesFit, rootFits, A1, A2, B1, resultIs, labelFollows, follows, edgeFollows, B2, C3, C1, C2, valueRule}
+use Rattle.graph.specs.Seconds.{second19, secondOf, second21}
 use Rattle.graph.specs.Table.{graphOutcome, graphAnswer}
 use Rattle.graph.specs.Figures.{figures, figureOutcome, figurePart}
 use Rattle.laguipy.specs.Cases.{Case, Told, checked, figured, stepped, cases}
@@ -35,7 +37,7 @@ use Rattle.graph.proofs.Demand.{demand-3}
 
 -- All that the calls are defined by, opened.
 unfoldable computing : ℕ
-unfolding u16 u32 signed16 dueStart entryOk body countOf field field4 firstBad tab passing sameList outcome allRules firstBroken numberFormOf truthFormOf numberForm truthForm isNumber isTruth numberAt truthAt minZ maxZ eqZ readNumber readTruth rangeOf inside depthOf numberFits truthFits entryFits rangeFits recordSize recordCount bound recordsFit variableFits termsFit commandFits recordsAddUp assignedFits branchFits weightsTotal next Step.valueFits Step.stepOutcome Step.stepRow edgeSize edgeAfter edgesStart edgeWhole edgeAt kindOf hasBit lookIn nodesFit headFits valuesFit nodeFits edgeFits edgesFit rootFits A1 A2 B1 resultIs labelFollows follows edgeFollows B2 C3 C1 C2 valueRule graphOutcome graphAnswer round figures figureOutcome figurePart
+unfolding u16 u32 signed16 dueStart entryOk body countOf field field4 firstBad tab passing sameList outcome allRules firstBroken numberFormOf truthFormOf numberForm truthForm isNumber isTruth numberAt truthAt minZ maxZ eqZ readNumber readTruth rangeOf inside depthOf numberFits truthFits entryFits rangeFits recordSize recordCount bound recordsFit variableFits termsFit commandFits recordsAddUp assignedFits branchFits weightsTotal next Step.valueFits Step.stepOutcome Step.stepRow edgeSize edgeAfter edgesStart edgeWhole edgeAt kindOf hasBit lookIn nodesFit headFits valuesFit nodeFits edgeFits edgesFit rootFits A1 A2 B1 resultIs labelFollows follows edgeFollows B2 union mentions missing second19 secondOf second21 C3 C1 C2 valueRule graphOutcome graphAnswer round figures figureOutcome figurePart
 computing = 0
 
 pub cases-hold : map (λ (c : Case). c .told) cases ≡ map (λ (c : Case). c .due) cases

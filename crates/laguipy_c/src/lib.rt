@@ -7,14 +7,14 @@ use index::IndexAnswer;
 ghost use mathlib.Core.Path.{_≡_};
 ghost use Prim.Native.Nat.{_<_};
 ghost use Rattle.folder.specs.Pick.{pick};
-ghost use Rattle.folder.specs.Table.{outcomeNumber, outcomePlace, outcome};
+ghost use Rattle.folder.specs.Table.{outcomeNumber, outcomePlaces, outcome};
 ghost use Rattle.folder.specs.declared.Outcome.the-variants.{Accepted};
 ghost use Rattle.model.specs.Table.{folderRows, modelOutcome};
 ghost use Rattle.model.specs.View.{viewStart};
 ghost use Rattle.model.specs.Step.{stepOutcome, stepRow};
-ghost use Rattle.graph.specs.Table.{graphAnswer, answerNumber, answerPlace, answerValues};
+ghost use Rattle.graph.specs.Table.{graphAnswer, answerNumber, answerPlaces, answerValues};
 ghost use Rattle.graph.specs.Figures.{figureOutcome, inFirst, firstRow, secondRow};
-ghost use Rattle.index.specs.Index.{indexAnswer, slotsRow, answersRow, listingRow, indexNumber, indexPlace, indexListed};
+ghost use Rattle.index.specs.Index.{indexAnswer, slotsRow, answersRow, listingRow, indexNumber, indexPlaces, indexListed};
 ghost use Rattle.laguipy_c.specs.Answers.{viewPlace, figurePlace};
 
 fn number_of(o: Outcome) -> usize
@@ -26,12 +26,12 @@ fn number_of(o: Outcome) -> usize
     }
 }
 
-fn place_of(o: Outcome) -> usize
-    ensures { λ r. ⌜ r ≡ outcomePlace o ⌝ }
+fn places_of(o: Outcome) -> [usize; 2]
+    ensures { λ r. ⌜ r ≡ outcomePlaces o ⌝ }
 {
     match o {
-        Outcome::Accepted => 0,
-        Outcome::Refused(f) => f.place,
+        Outcome::Accepted => [0, 0],
+        Outcome::Refused(f) => [f.place, f.second],
     }
 }
 
@@ -44,12 +44,12 @@ fn answer_number(a: GraphAnswer) -> usize
     }
 }
 
-fn answer_place(a: GraphAnswer) -> usize
-    ensures { λ r. ⌜ r ≡ answerPlace a ⌝ }
+fn answer_places(a: GraphAnswer) -> [usize; 2]
+    ensures { λ r. ⌜ r ≡ answerPlaces a ⌝ }
 {
     match a {
-        GraphAnswer::Accepted(_) => 0,
-        GraphAnswer::Refused(f) => f.place,
+        GraphAnswer::Accepted(_) => [0, 0],
+        GraphAnswer::Refused(f) => [f.place, f.second],
     }
 }
 
@@ -64,12 +64,12 @@ fn answer_values(a: GraphAnswer) -> [usize; 5]
 
 // The model check.
 #[no_mangle]
-pub extern "C" fn laguipy_model_check(model: &[u8], place: &mut usize) -> usize
+pub extern "C" fn laguipy_model_check(model: &[u8], place: &mut [usize; 2]) -> usize
     ensures { λ r. ⌜ r ≡ outcomeNumber (modelOutcome (now (model .entry))) ⌝ }
-    ensures { λ _. ⌜ now (place .exit) ≡ outcomePlace (modelOutcome (now (model .entry))) ⌝ }
+    ensures { λ _. ⌜ now (place .exit) ≡ outcomePlaces (modelOutcome (now (model .entry))) ⌝ }
 {
     let o = laguipy::model_check(model);
-    *place = place_of(o);
+    *place = places_of(o);
     number_of(o)
 }
 
@@ -115,15 +115,15 @@ pub extern "C" fn laguipy_record_part(model: &[u8], e: usize, i: usize, part: &m
 pub extern "C" fn laguipy_graph_check(
     model: &[u8],
     graph: &[u8],
-    place: &mut usize,
+    place: &mut [usize; 2],
     values: &mut [usize; 5],
 ) -> usize
     ensures { λ r. ⌜ r ≡ answerNumber (graphAnswer (now (model .entry)) (now (graph .entry))) ⌝ }
-    ensures { λ _. ⌜ now (place .exit) ≡ answerPlace (graphAnswer (now (model .entry)) (now (graph .entry))) ⌝ }
+    ensures { λ _. ⌜ now (place .exit) ≡ answerPlaces (graphAnswer (now (model .entry)) (now (graph .entry))) ⌝ }
     ensures { λ _. ⌜ now (values .exit) ≡ answerValues (graphAnswer (now (model .entry)) (now (graph .entry))) ⌝ }
 {
     let a = laguipy::graph_check(model, graph);
-    *place = answer_place(a);
+    *place = answer_places(a);
     *values = answer_values(a);
     answer_number(a)
 }
@@ -136,13 +136,13 @@ pub extern "C" fn laguipy_figure_refusal(
     h: usize,
     first: &[u32],
     second: &[u32],
-    place: &mut usize,
+    place: &mut [usize; 2],
 ) -> usize
     ensures { λ r. ⌜ r ≡ outcomeNumber (figureOutcome (now (model .entry)) (now (graph .entry)) h (now (first .entry)) (now (second .entry))) ⌝ }
-    ensures { λ _. ⌜ now (place .exit) ≡ outcomePlace (figureOutcome (now (model .entry)) (now (graph .entry)) h (now (first .entry)) (now (second .entry))) ⌝ }
+    ensures { λ _. ⌜ now (place .exit) ≡ outcomePlaces (figureOutcome (now (model .entry)) (now (graph .entry)) h (now (first .entry)) (now (second .entry))) ⌝ }
 {
     let o = laguipy::figure_refusal(model, graph, h, first, second);
-    *place = place_of(o);
+    *place = places_of(o);
     number_of(o)
 }
 
@@ -154,15 +154,15 @@ pub extern "C" fn laguipy_figure_rows(
     h: usize,
     first: &mut [u32],
     second: &mut [u32],
-    place: &mut usize,
+    place: &mut [usize; 2],
 ) -> usize
     ensures { λ r. ⌜ r ≡ outcomeNumber (figureOutcome (now (model .entry)) (now (graph .entry)) h (now (first .entry)) (now (second .entry))) ⌝ }
     ensures { λ _. ⌜ now (first .exit) ≡ firstRow (now (model .entry)) (now (graph .entry)) h (now (first .entry)) (now (second .entry)) ⌝ }
     ensures { λ _. ⌜ now (second .exit) ≡ secondRow (now (model .entry)) (now (graph .entry)) h (now (first .entry)) (now (second .entry)) ⌝ }
-    ensures { λ _. ⌜ now (place .exit) ≡ outcomePlace (figureOutcome (now (model .entry)) (now (graph .entry)) h (now (first .entry)) (now (second .entry))) ⌝ }
+    ensures { λ _. ⌜ now (place .exit) ≡ outcomePlaces (figureOutcome (now (model .entry)) (now (graph .entry)) h (now (first .entry)) (now (second .entry))) ⌝ }
 {
     let o = laguipy::figure_rows(model, graph, h, first, second);
-    *place = place_of(o);
+    *place = places_of(o);
     number_of(o)
 }
 
@@ -181,25 +181,25 @@ pub extern "C" fn laguipy_figure(
     h: usize,
     first: &mut [u32],
     second: &mut [u32],
-    place: &mut usize,
+    place: &mut [usize; 2],
     part: &mut [usize; 2],
 ) -> usize
     ensures { λ r. ⌜ r ≡ outcomeNumber (figureOutcome (now (model .entry)) (now (graph .entry)) h (now (first .entry)) (now (second .entry))) ⌝ }
     ensures { λ _. ⌜ now (first .exit) ≡ firstRow (now (model .entry)) (now (graph .entry)) h (now (first .entry)) (now (second .entry)) ⌝ }
     ensures { λ _. ⌜ now (second .exit) ≡ secondRow (now (model .entry)) (now (graph .entry)) h (now (first .entry)) (now (second .entry)) ⌝ }
-    ensures { λ _. ⌜ now (place .exit) ≡ outcomePlace (figureOutcome (now (model .entry)) (now (graph .entry)) h (now (first .entry)) (now (second .entry))) ⌝ }
+    ensures { λ _. ⌜ now (place .exit) ≡ outcomePlaces (figureOutcome (now (model .entry)) (now (graph .entry)) h (now (first .entry)) (now (second .entry))) ⌝ }
     ensures { λ _. ⌜ now (part .exit) ≡ figurePlace (now (model .entry)) (now (graph .entry)) h (now (first .entry)) (now (second .entry)) ⌝ }
 {
     let o = laguipy::figure_rows(model, graph, h, first, second);
     match o {
         Outcome::Accepted => {
             let count = graph::node_count(model, graph);
-            *place = 0;
+            *place = [0, 0];
             *part = [row_of(h), count];
             0
         }
         Outcome::Refused(f) => {
-            *place = f.place;
+            *place = [f.place, f.second];
             *part = [0, 0];
             f.number
         }
@@ -215,12 +215,12 @@ fn index_number(a: IndexAnswer) -> usize
     }
 }
 
-fn index_place(a: IndexAnswer) -> usize
-    ensures { λ r. ⌜ r ≡ indexPlace a ⌝ }
+fn index_places(a: IndexAnswer) -> [usize; 2]
+    ensures { λ r. ⌜ r ≡ indexPlaces a ⌝ }
 {
     match a {
-        IndexAnswer::Accepted(_) => 0,
-        IndexAnswer::Refused(f) => f.place,
+        IndexAnswer::Accepted(_) => [0, 0],
+        IndexAnswer::Refused(f) => [f.place, f.second],
     }
 }
 
@@ -242,18 +242,18 @@ pub extern "C" fn laguipy_index(
     batch: &[i16],
     answers: &mut [u16],
     listing: &mut [u16],
-    place: &mut usize,
+    place: &mut [usize; 2],
     listed: &mut usize,
 ) -> usize
     ensures { λ r. ⌜ r ≡ indexNumber (indexAnswer (now (model .entry)) (now (graph .entry)) (now (slots .entry)) (now (batch .entry)) (now (answers .entry)) (now (listing .entry))) ⌝ }
     ensures { λ _. ⌜ now (slots .exit) ≡ slotsRow (now (model .entry)) (now (graph .entry)) (now (slots .entry)) (now (batch .entry)) (now (answers .entry)) (now (listing .entry)) ⌝ }
     ensures { λ _. ⌜ now (answers .exit) ≡ answersRow (now (model .entry)) (now (graph .entry)) (now (slots .entry)) (now (batch .entry)) (now (answers .entry)) (now (listing .entry)) ⌝ }
     ensures { λ _. ⌜ now (listing .exit) ≡ listingRow (now (model .entry)) (now (graph .entry)) (now (slots .entry)) (now (batch .entry)) (now (answers .entry)) (now (listing .entry)) ⌝ }
-    ensures { λ _. ⌜ now (place .exit) ≡ indexPlace (indexAnswer (now (model .entry)) (now (graph .entry)) (now (slots .entry)) (now (batch .entry)) (now (answers .entry)) (now (listing .entry))) ⌝ }
+    ensures { λ _. ⌜ now (place .exit) ≡ indexPlaces (indexAnswer (now (model .entry)) (now (graph .entry)) (now (slots .entry)) (now (batch .entry)) (now (answers .entry)) (now (listing .entry))) ⌝ }
     ensures { λ _. ⌜ now (listed .exit) ≡ indexListed (indexAnswer (now (model .entry)) (now (graph .entry)) (now (slots .entry)) (now (batch .entry)) (now (answers .entry)) (now (listing .entry))) ⌝ }
 {
     let a = laguipy::index(model, graph, slots, batch, answers, listing);
-    *place = index_place(a);
+    *place = index_places(a);
     *listed = index_listed(a);
     index_number(a)
 }
@@ -266,13 +266,13 @@ pub extern "C" fn laguipy_step(
     command: usize,
     branch: usize,
     result: &mut [i16],
-    place: &mut usize,
+    place: &mut [usize; 2],
 ) -> usize
     ensures { λ r. ⌜ r ≡ outcomeNumber (stepOutcome (now (model .entry)) (now (state .entry)) command branch (now (result .entry))) ⌝ }
     ensures { λ _. ⌜ now (result .exit) ≡ stepRow (now (model .entry)) (now (state .entry)) command branch (now (result .entry)) ⌝ }
-    ensures { λ _. ⌜ now (place .exit) ≡ outcomePlace (stepOutcome (now (model .entry)) (now (state .entry)) command branch (now (result .entry))) ⌝ }
+    ensures { λ _. ⌜ now (place .exit) ≡ outcomePlaces (stepOutcome (now (model .entry)) (now (state .entry)) command branch (now (result .entry))) ⌝ }
 {
     let o = laguipy::step(model, state, command, branch, result);
-    *place = place_of(o);
+    *place = places_of(o);
     number_of(o)
 }

@@ -1,5 +1,5 @@
 use mathlib.Core.Path.{ap, _∙_}
-use Rattle.graph.specs.Table.{answerNumber, answerPlace, answerValues}
+use Rattle.graph.specs.Table.{answerNumber, answerPlaces, answerValues}
 use borrow.Author.Needs.{needs}
 use Rattle.laguipy_c.proofs.laguipy_graph_check.Statement.{statement}
 use Rattle.laguipy_c.proofs.laguipy_graph_check.Tie as tie
@@ -7,7 +7,7 @@ use Rattle.laguipy_c.proofs.laguipy_graph_check.Tie as tie
 returns : tie.Need-returns
 returns c =
     let a = c .before .before .before .graph-check .ensures in
-    (c .answer-number .ensures ∙ ap answerNumber a, (c .before .before .answer-place .ensures ∙ ap answerPlace a, c .before .answer-values .ensures ∙ ap answerValues a))
+    (c .answer-number .ensures ∙ ap answerNumber a, (c .before .before .answer-places .ensures ∙ ap answerPlaces a, c .before .answer-values .ensures ∙ ap answerValues a))
 
 pub laguipy-graph-check-spec : {M : Type 1} → statement M
 laguipy-graph-check-spec =
