@@ -2,6 +2,7 @@
 // lines are.
 use clamped::add;
 use clamped::long;
+use folder::Refusal;
 use graph::GraphAnswer;
 use lookup::MOST_NUMBERS;
 use lookup::index_case;
@@ -130,8 +131,13 @@ fn value_case(
     }
 }
 
-fn graph_case(t: &mut [usize; TALLY], m: &[u8], g: &[u8], number: usize, place: usize) {
-    judge(t, outcome_of(laguipy::graph_check(m, g)), number, place);
+// The answer that a line has as due.
+fn answer_due(d: &[usize; 32]) -> Refusal {
+    Refusal {
+        number: d[0],
+        place: d[1],
+        second: d[2],
+    }
 }
 
 fn asked_case(
@@ -145,10 +151,10 @@ fn asked_case(
     let m = head(room, f.model);
     let g = part(room, GRAPH, f.graph);
     match kind {
-        b'm' | b'z' => judge(t, laguipy::model_check(m), d[0], d[1]),
-        b'g' | b'Z' => graph_case(t, m, g, d[0], d[1]),
-        b'f' => figure_case(t, m, g, a, d),
-        b'i' => index_case(t, m, g, a, d),
+        b'm' | b'z' => judge(t, laguipy::model_check(m), answer_due(d)),
+        b'g' | b'Z' => judge(t, outcome_of(laguipy::graph_check(m, g)), answer_due(d)),
+        b'f' => figure_case(t, m, g, a, answer_due(d)),
+        b'i' => index_case(t, m, g, a, answer_due(d)),
         b's' => zero_step(t, m, a[1], a[0], a[2], a[3]),
         b'b' => box_steps(t, m),
         _ => value_case(t, m, g, kind, a, d),

@@ -4,6 +4,7 @@ use clamped::add;
 use clamped::mul;
 use clamped::sub;
 use folder::Outcome;
+use folder::Refusal;
 use graph::MOST_NODES;
 use graph::SLOTS;
 use index::IndexAnswer;
@@ -16,8 +17,6 @@ use solver::small;
 use tally::TALLY;
 use tally::hold;
 use tally::judge;
-use tally::number_of;
-use tally::place_of;
 
 // What every row holds before the call.
 const BEFORE: u16 = 9;
@@ -207,8 +206,8 @@ fn states(m: &[u8], a: &[usize; 32]) -> usize {
     }
 }
 
-// The index call on rows of these lengths and this batch, due to answer d. Refused, all rows stay.
-pub fn index_case(t: &mut [usize; TALLY], m: &[u8], g: &[u8], a: &[usize; 32], d: &[usize; 32]) {
+// The index call on rows of these lengths and this batch. Refused, all rows stay.
+pub fn index_case(t: &mut [usize; TALLY], m: &[u8], g: &[u8], a: &[usize; 32], due: Refusal) {
     let mut slots = [BEFORE; SLOTS + 1];
     let mut answers = [BEFORE; MOST_NUMBERS];
     let mut listing = [BEFORE; MOST_NODES + 1];
@@ -221,8 +220,8 @@ pub fn index_case(t: &mut [usize; TALLY], m: &[u8], g: &[u8], a: &[usize; 32], d
         front(&mut answers, a[1]),
         front(&mut listing, a[2]),
     );
-    judge(t, outcome_of(r), d[0], d[1]);
-    let right = if d[0] == 0 {
+    judge(t, outcome_of(r), due);
+    let right = if due.number == 0 {
         slots_right(m, g, &slots)
             & answers_right(m, g, a, states(m, a), &answers)
             & listing_right(m, g, listed(r), &listing)
@@ -233,13 +232,10 @@ pub fn index_case(t: &mut [usize; TALLY], m: &[u8], g: &[u8], a: &[usize; 32], d
 }
 
 // The same with rows that fit and no batch, due to answer as the graph check does.
-pub fn index_as(t: &mut [usize; TALLY], m: &[u8], g: &[u8], o: Outcome) {
+pub fn index_as(t: &mut [usize; TALLY], m: &[u8], g: &[u8], due: Refusal) {
     let mut a = [0; 32];
     a[0] = SLOTS;
     a[2] = MOST_NODES;
     a[MOST_NUMBERS] = ROWS;
-    let mut d = [0; 32];
-    d[0] = number_of(o);
-    d[1] = place_of(o);
-    index_case(t, m, g, &a, &d);
+    index_case(t, m, g, &a, due);
 }

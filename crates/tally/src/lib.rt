@@ -4,6 +4,7 @@
 // What is wrong is told as it is found. Safe and ending on any arguments; its contracts say no more.
 use clamped::add;
 use folder::Outcome;
+use folder::Refusal;
 use graph::GraphAnswer;
 
 // The last refusal of the table.
@@ -38,17 +39,19 @@ pub fn count(t: &mut [usize; TALLY], k: usize) {
     }
 }
 
-pub fn number_of(o: Outcome) -> usize {
-    match o {
-        Outcome::Accepted => 0,
-        Outcome::Refused(f) => f.number,
+// An answer with one place: the second is 0. Acceptance is number 0 at 0.
+pub fn answer(number: usize, place: usize) -> Refusal {
+    Refusal {
+        number,
+        place,
+        second: 0,
     }
 }
 
-pub fn place_of(o: Outcome) -> usize {
+pub fn answer_of(o: Outcome) -> Refusal {
     match o {
-        Outcome::Accepted => 0,
-        Outcome::Refused(f) => f.place,
+        Outcome::Accepted => answer(0, 0),
+        Outcome::Refused(f) => f,
     }
 }
 
@@ -59,28 +62,49 @@ pub fn outcome_of(a: GraphAnswer) -> Outcome {
     }
 }
 
-// A case that is due to hold; where it does not, the place in the run and two numbers that came are told.
-pub fn hold(t: &mut [usize; TALLY], ok: bool, first: usize, second: usize) {
+// Whether a case holds; where it does not, the place in the run starts a line.
+fn passes(t: &mut [usize; TALLY], ok: bool) -> bool {
     count(t, CASES);
     if ok {
-        return;
+        return true;
     }
     count(t, WRONG);
     say(b"wrong at ");
     say_number(t[PLACE]);
-    say(b": ");
-    say_number(first);
+    say(b":");
+    false
+}
+
+fn say_next(n: usize) {
     say(b" ");
-    say_number(second);
+    say_number(n);
+}
+
+// A case that is due to hold; where it does not, two numbers that came are told.
+pub fn hold(t: &mut [usize; TALLY], ok: bool, first: usize, second: usize) {
+    if passes(t, ok) {
+        return;
+    }
+    say_next(first);
+    say_next(second);
     say(b"\n");
 }
 
-// A case whose answer is due to be this number and place.
-pub fn judge(t: &mut [usize; TALLY], o: Outcome, number: usize, place: usize) {
-    let n = number_of(o);
-    let p = place_of(o);
-    count(t, n);
-    hold(t, (n == number) & (p == place), n, p);
+fn same_answer(a: Refusal, b: Refusal) -> bool {
+    (a.number == b.number) & (a.place == b.place) & (a.second == b.second)
+}
+
+// A case whose answer is due to be this one, with both places.
+pub fn judge(t: &mut [usize; TALLY], o: Outcome, due: Refusal) {
+    let came = answer_of(o);
+    count(t, came.number);
+    if passes(t, same_answer(came, due)) {
+        return;
+    }
+    say_next(came.number);
+    say_next(came.place);
+    say_next(came.second);
+    say(b"\n");
 }
 
 // The line of a group, whose count starts anew.

@@ -16,13 +16,13 @@ use samples::build::put32;
 use samples::build::set;
 use tally::PLACE;
 use tally::TALLY;
+use tally::answer;
+use tally::answer_of;
 use tally::close_group;
 use tally::count;
 use tally::hold;
 use tally::judge;
-use tally::number_of;
 use tally::outcome_of;
-use tally::place_of;
 use witness::bounds;
 use witness::box_steps;
 use witness::rows_case;
@@ -48,15 +48,15 @@ fn accepted(t: &mut [usize; TALLY], m: &[u8], g: &[u8], n: usize, steps: bool) {
 fn pair(t: &mut [usize; TALLY], m: &[u8], g: &[u8], steps: bool) {
     rows_case(t, m, g, 2, 6, 7);
     rows_case(t, m, g, 3, 7, 6);
-    let o = laguipy::model_check(m);
-    let a = outcome_of(laguipy::graph_check(m, g));
-    index_as(t, m, g, a);
-    let n = number_of(o);
-    count(t, n);
-    if n == 0 {
-        accepted(t, m, g, number_of(a), steps);
+    let of_model = answer_of(laguipy::model_check(m));
+    let o = outcome_of(laguipy::graph_check(m, g));
+    let told = answer_of(o);
+    index_as(t, m, g, told);
+    count(t, of_model.number);
+    if of_model.number == 0 {
+        accepted(t, m, g, told.number, steps);
     } else {
-        judge(t, a, n, place_of(o));
+        judge(t, o, of_model);
     }
 }
 
@@ -117,7 +117,11 @@ fn weigh_graph(g: &mut [u8], d: usize, w: usize) {
 }
 
 fn graph_case(t: &mut [usize; TALLY], m: &[u8], g: &[u8], number: usize, place: usize) {
-    judge(t, outcome_of(laguipy::graph_check(m, g)), number, place);
+    judge(
+        t,
+        outcome_of(laguipy::graph_check(m, g)),
+        answer(number, place),
+    );
 }
 
 // The value at an offset less one unit.

@@ -2,6 +2,7 @@
 // ending on any arguments; its contracts say no more.
 use clamped::add;
 use clamped::sub;
+use folder::Refusal;
 use graph::MOST_NODES;
 use solver::MOST_VARIABLES;
 use solver::Trial;
@@ -12,10 +13,11 @@ use tally::BOUNDS;
 use tally::STEPS;
 use tally::TALLY;
 use tally::TOO_BIG;
+use tally::answer;
+use tally::answer_of;
 use tally::count;
 use tally::hold;
 use tally::judge;
-use tally::number_of;
 
 // The rows beyond a result, and a refused step's, keep this.
 const KEPT: i16 = 7;
@@ -78,7 +80,7 @@ fn step_case(
     let mut row = [KEPT; MOST_VARIABLES];
     let o = laguipy::step(m, first_values(&state, n), c, b, first_room(&mut row, room));
     count(t, STEPS);
-    judge(t, o, due.number, due.place);
+    judge(t, o, answer(due.number, due.place));
     let wanted = due_row(m, s, c, b, due.number == 0);
     hold(t, same_rows(&row, &wanted), c, b);
 }
@@ -117,9 +119,9 @@ fn bound_case(t: &mut [usize; TALLY], h: usize, r: Trial) {
 fn figures_case(t: &mut [usize; TALLY], m: &[u8], g: &[u8], h: usize) {
     let mut first = [0u32; 8];
     let mut second = [0u32; 8];
-    let o = laguipy::figure_refusal(m, g, h, &first, &second);
-    count(t, number_of(o));
-    if number_of(o) == 0 {
+    let told = answer_of(laguipy::figure_refusal(m, g, h, &first, &second));
+    count(t, told.number);
+    if told.number == 0 {
         let row = laguipy::figure(m, g, h, &mut first, &mut second);
         bound_case(t, h, solver::try_figures(m, g, h, row));
     }
@@ -169,13 +171,13 @@ fn on_rows(
     h: usize,
     first: &mut [u32],
     second: &mut [u32],
-    d: &[usize; 32],
+    due: Refusal,
 ) {
     let told = laguipy::figure_refusal(m, g, h, first, second);
     let made = laguipy::figure_rows(m, g, h, first, second);
-    kept(t, d[0], first, second);
-    judge(t, told, d[0], d[1]);
-    judge(t, made, d[0], d[1]);
+    kept(t, due.number, first, second);
+    judge(t, told, due);
+    judge(t, made, due);
 }
 
 // Whether the rows hold the same.
@@ -209,8 +211,8 @@ pub fn rows_case(t: &mut [usize; TALLY], m: &[u8], g: &[u8], h: usize, n: usize,
     hold(t, same, h, 0);
 }
 
-// The figure call at h and row lengths a, due to answer d.
-pub fn figure_case(t: &mut [usize; TALLY], m: &[u8], g: &[u8], a: &[usize; 32], d: &[usize; 32]) {
+// The figure call at h and row lengths a.
+pub fn figure_case(t: &mut [usize; TALLY], m: &[u8], g: &[u8], a: &[usize; 32], due: Refusal) {
     let mut first = [9u32; MOST_NODES];
     let mut second = [9u32; MOST_NODES];
     on_rows(
@@ -220,7 +222,7 @@ pub fn figure_case(t: &mut [usize; TALLY], m: &[u8], g: &[u8], a: &[usize; 32], 
         a[0],
         units(&mut first, a[1]),
         units(&mut second, a[2]),
-        d,
+        due,
     );
     rows_case(t, m, g, a[0], a[1], a[2]);
 }
