@@ -117,11 +117,8 @@ fn weigh_graph(g: &mut [u8], d: usize, w: usize) {
 }
 
 fn graph_case(t: &mut [usize; TALLY], m: &[u8], g: &[u8], number: usize, place: usize) {
-    judge(
-        t,
-        outcome_of(laguipy::graph_check(m, g)),
-        answer(number, place),
-    );
+    let o = outcome_of(laguipy::graph_check(m, g));
+    judge(t, o, answer(number, place));
 }
 
 // The value at an offset less one unit.
