@@ -10,8 +10,8 @@
  *
  * - pass a slice as a pointer and a count of elements, which may be 0. No pointer is NULL, not even that of an empty
  *   slice, and each is aligned for its elements: folders need no alignment, rows that of uint32_t, uint16_t or
- *   int16_t, numbers (*place, *listed, values, part) that of size_t.
- * - keep whatever is written to (rows, *place, *listed, values, part) apart from all else that is passed. What is only
+ *   int16_t, numbers (place, *listed, values, part) that of size_t.
+ * - keep whatever is written to (rows, place, *listed, values, part) apart from all else that is passed. What is only
  *   read may overlap: the same bytes may be passed as model and graph.
  * - see to it that, during the call, nobody else writes to what is passed or reads what is written to.
  * - have LAGUIPY_STACK_BYTES of stack left.
@@ -19,8 +19,12 @@
  * It, on every call, whatever the bytes and the lengths are:
  *
  * - returns 0 for acceptance, else the number of the refusal, 1 to 34. Only laguipy_record_part returns nothing.
- * - writes *place, *listed, values and part, refused or not. *place is the place that docs/REFUSALS.md gives for the
- *   refusal, 0 if accepted. Rows (first, second, slots, answers, listing, result) stay as they were when it refuses.
+ * - writes place, *listed, values and part, refused or not. place[0] is where a rule is broken: a node, a command, an
+ *   entry and so on, as docs/REFUSALS.md says for each refusal. place[1] is a variable: for 19 the lowest that the
+ *   unknown guard or target mentions and the node does not track, for 21 the assigned one that does not lead to the
+ *   successor's label, for both LAGUIPY_NO_VARIABLE if it is another fault. It is 0 for all other refusals. Accepted,
+ *   both are 0.
+ * - leaves the rows (first, second, slots, answers, listing, result) as they were when it refuses.
  * - ends, allocates nothing, frees nothing, keeps no pointer, reads and writes no file, and has no state: calls on
  *   different rows may run in any number of threads at once.
  *
@@ -51,6 +55,9 @@ extern "C" {
 #define LAGUIPY_SLOTS 8192
 #define LAGUIPY_NO_NODE 65535
 
+/* What stands for no variable, as the second place of a refusal. */
+#define LAGUIPY_NO_VARIABLE 65535
+
 /* The most bytes of a folder. */
 #define LAGUIPY_MODEL_BYTES 40000
 #define LAGUIPY_GRAPH_BYTES 1048576
@@ -69,7 +76,7 @@ enum {
 };
 
 /* The model check: refusals 1 to 11 (docs/REFUSALS.md). */
-size_t laguipy_model_check(const uint8_t *model, size_t model_len, size_t *place);
+size_t laguipy_model_check(const uint8_t *model, size_t model_len, size_t place[2]);
 
 /*
  * The view: record `record` of body `body` of the model folder (0 terms, 1 variables, 2 expressions, 3 commands, 4
@@ -83,7 +90,7 @@ void laguipy_record_part(const uint8_t *model, size_t model_len, size_t body, si
  * above numbers them; refused, zeros.
  */
 size_t laguipy_graph_check(const uint8_t *model, size_t model_len, const uint8_t *graph, size_t graph_len,
-                           size_t *place, size_t values[LAGUIPY_VALUES]);
+                           size_t place[2], size_t values[LAGUIPY_VALUES]);
 
 /*
  * What a figure call on these arguments answers: the graph check's refusal, then 26 (a node waits), 27 (h over
@@ -92,7 +99,7 @@ size_t laguipy_graph_check(const uint8_t *model, size_t model_len, const uint8_t
  */
 size_t laguipy_figure_refusal(const uint8_t *model, size_t model_len, const uint8_t *graph, size_t graph_len, size_t h,
                               const uint32_t *first, size_t first_len, const uint32_t *second, size_t second_len,
-                              size_t *place);
+                              size_t place[2]);
 
 /*
  * The figures for h steps, one per node: round h in the first row if h is even, else in the second, and round h - 1 in
@@ -100,14 +107,14 @@ size_t laguipy_figure_refusal(const uint8_t *model, size_t model_len, const uint
  * both rows stay.
  */
 size_t laguipy_figure_rows(const uint8_t *model, size_t model_len, const uint8_t *graph, size_t graph_len, size_t h,
-                           uint32_t *first, size_t first_len, uint32_t *second, size_t second_len, size_t *place);
+                           uint32_t *first, size_t first_len, uint32_t *second, size_t second_len, size_t place[2]);
 
 /*
  * The same, which tells where the figures stand: part[0] is 0 for the first row and 1 for the second, part[1] their
  * count, from the row's start. Refused, both are 0.
  */
 size_t laguipy_figure(const uint8_t *model, size_t model_len, const uint8_t *graph, size_t graph_len, size_t h,
-                      uint32_t *first, size_t first_len, uint32_t *second, size_t second_len, size_t *place,
+                      uint32_t *first, size_t first_len, uint32_t *second, size_t second_len, size_t place[2],
                       size_t part[2]);
 
 /*
@@ -127,14 +134,14 @@ size_t laguipy_figure(const uint8_t *model, size_t model_len, const uint8_t *gra
  */
 size_t laguipy_index(const uint8_t *model, size_t model_len, const uint8_t *graph, size_t graph_len, uint16_t *slots,
                      size_t slots_len, const int16_t *batch, size_t batch_len, uint16_t *answers, size_t answers_len,
-                     uint16_t *listing, size_t listing_len, size_t *place, size_t *listed);
+                     uint16_t *listing, size_t listing_len, size_t place[2], size_t *listed);
 
 /*
  * The step of a state by a branch of a command, also from a target. The new state, one value per variable, stands first
  * in `result`, whose later elements stay. Refused, with 1 to 11 or 29 to 33, all of them stay.
  */
 size_t laguipy_step(const uint8_t *model, size_t model_len, const int16_t *state, size_t state_len, size_t command,
-                    size_t branch, int16_t *result, size_t result_len, size_t *place);
+                    size_t branch, int16_t *result, size_t result_len, size_t place[2]);
 
 #ifdef __cplusplus
 }

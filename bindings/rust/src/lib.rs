@@ -42,7 +42,7 @@
 //! let figures = figure(model, graph, 2, &mut first, &mut second).expect("no node waits");
 //! assert_eq!(figures, [10_000_000, 0, 100_000_000, 10_000_000, 0, 1_000_000_000]);
 //!
-//! assert_eq!(graph_check(model, &graph[1..]), Err(Refusal { number: 13, place: 0 }));
+//! assert_eq!(graph_check(model, &graph[1..]), Err(Refusal { number: 13, place: 0, second: 0 }));
 //! ```
 //!
 //! # Tests and examples
@@ -87,18 +87,28 @@ pub const SLOTS: usize = 8_192;
 /// What stands for no node, in an empty slot or as an answer.
 pub const NO_NODE: u16 = 65_535;
 
+/// What stands for no variable, as the second place of a refusal.
+pub const NO_VARIABLE: usize = 65_535;
+
 /// The highest number of a refusal.
 pub const LAST_REFUSAL: u32 = 34;
 
-/// The first broken rule: its number, and the place returned with it (an entry, a
-/// variable, an expression, a node and so on). `docs/REFUSALS.md` in Laguipy's
-/// repository says of each number what it means, what its place is and what to do.
+/// The first broken rule: its number, and the two places returned with it.
+/// `docs/REFUSALS.md` in Laguipy's repository says of each number what it means, what
+/// its places are and what to do.
 #[derive(Clone, Copy, Debug, PartialEq, Eq, Hash, PartialOrd, Ord)]
 pub struct Refusal {
     pub number: u32,
+    /// An entry, a variable, an expression, a node and so on.
     pub place: usize,
+    /// For 19 the lowest variable that the unknown guard or target mentions and the
+    /// node does not track, for 21 the assigned variable that does not lead to the
+    /// successor's label; for both [`NO_VARIABLE`] if it is another fault. 0 for all
+    /// other numbers.
+    pub second: usize,
 }
 
+/// The check program's line, which has the first place alone.
 impl std::fmt::Display for Refusal {
     fn fmt(&self, to: &mut std::fmt::Formatter<'_>) -> std::fmt::Result {
         write!(to, "refused {} {}", self.number, self.place)
@@ -121,7 +131,7 @@ pub struct Summary {
 /// include/laguipy.h, which says what each function answers.
 mod c {
     extern "C" {
-        pub fn laguipy_model_check(model: *const u8, model_len: usize, place: *mut usize) -> usize;
+        pub fn laguipy_model_check(model: *const u8, model_len: usize, place: *mut [usize; 2]) -> usize;
         pub fn laguipy_record_part(
             model: *const u8,
             model_len: usize,
@@ -134,7 +144,7 @@ mod c {
             model_len: usize,
             graph: *const u8,
             graph_len: usize,
-            place: *mut usize,
+            place: *mut [usize; 2],
             values: *mut [usize; 5],
         ) -> usize;
         pub fn laguipy_figure_refusal(
@@ -147,7 +157,7 @@ mod c {
             first_len: usize,
             second: *const u32,
             second_len: usize,
-            place: *mut usize,
+            place: *mut [usize; 2],
         ) -> usize;
         pub fn laguipy_figure_rows(
             model: *const u8,
@@ -159,7 +169,7 @@ mod c {
             first_len: usize,
             second: *mut u32,
             second_len: usize,
-            place: *mut usize,
+            place: *mut [usize; 2],
         ) -> usize;
         pub fn laguipy_figure(
             model: *const u8,
@@ -171,7 +181,7 @@ mod c {
             first_len: usize,
             second: *mut u32,
             second_len: usize,
-            place: *mut usize,
+            place: *mut [usize; 2],
             part: *mut [usize; 2],
         ) -> usize;
         pub fn laguipy_index(
@@ -187,7 +197,7 @@ mod c {
             answers_len: usize,
             listing: *mut u16,
             listing_len: usize,
-            place: *mut usize,
+            place: *mut [usize; 2],
             listed: *mut usize,
         ) -> usize;
         pub fn laguipy_step(
@@ -199,16 +209,16 @@ mod c {
             branch: usize,
             result: *mut i16,
             result_len: usize,
-            place: *mut usize,
+            place: *mut [usize; 2],
         ) -> usize;
     }
 }
 
-/// Number and place as an answer; numbers are at most [`LAST_REFUSAL`].
-fn outcome(number: usize, place: usize) -> Result<(), Refusal> {
+/// Number and places as an answer; numbers are at most [`LAST_REFUSAL`].
+fn outcome(number: usize, [place, second]: [usize; 2]) -> Result<(), Refusal> {
     match number {
         0 => Ok(()),
-        _ => Err(Refusal { number: number as u32, place }),
+        _ => Err(Refusal { number: number as u32, place, second }),
     }
 }
 
@@ -218,7 +228,7 @@ fn outcome(number: usize, place: usize) -> Result<(), Refusal> {
 ///
 /// The first of them that applies, at its lowest place.
 pub fn model_check(model: &[u8]) -> Result<(), Refusal> {
-    let mut place = 0;
+    let mut place = [0; 2];
     // SAFETY: the pointers are of a slice with its length and of a local, and are
     // not kept.
     let number = unsafe { c::laguipy_model_check(model.as_ptr(), model.len(), &mut place) };
@@ -244,7 +254,7 @@ pub fn record_part(model: &[u8], body: usize, record: usize) -> &[u8] {
 /// The first of them that applies, at its lowest place; but 18 to 25 are finished
 /// for one node before the next.
 pub fn graph_check(model: &[u8], graph: &[u8]) -> Result<Summary, Refusal> {
-    let (mut place, mut values) = (0, [0; 5]);
+    let (mut place, mut values) = ([0; 2], [0; 5]);
     // SAFETY: as in `model_check`; the two locals are apart.
     let number = unsafe {
         c::laguipy_graph_check(
@@ -273,7 +283,7 @@ pub fn figure_refusal(
     first: &[u32],
     second: &[u32],
 ) -> Result<(), Refusal> {
-    let mut place = 0;
+    let mut place = [0; 2];
     // SAFETY: as in `model_check`; the rows are read only.
     let number = unsafe {
         c::laguipy_figure_refusal(
@@ -307,7 +317,7 @@ pub fn figure_rows(
     first: &mut [u32],
     second: &mut [u32],
 ) -> Result<(), Refusal> {
-    let mut place = 0;
+    let mut place = [0; 2];
     // SAFETY: as in `model_check`; slices that are lent to be written are apart.
     let number = unsafe {
         c::laguipy_figure_rows(
@@ -342,7 +352,7 @@ pub fn figure<'a>(
     first: &'a mut [u32],
     second: &'a mut [u32],
 ) -> Result<&'a mut [u32], Refusal> {
-    let (mut place, mut part) = (0, [0; 2]);
+    let (mut place, mut part) = ([0; 2], [0; 2]);
     // SAFETY: as in `figure_rows`; the two locals are apart.
     let number = unsafe {
         c::laguipy_figure(
@@ -407,7 +417,7 @@ pub fn index(
     answers: &mut [u16],
     listing: &mut [u16],
 ) -> Result<usize, Refusal> {
-    let (mut place, mut listed) = (0, 0);
+    let (mut place, mut listed) = ([0; 2], 0);
     // SAFETY: as in `figure_rows`; the two locals are apart.
     let number = unsafe {
         c::laguipy_index(
@@ -447,7 +457,7 @@ pub fn step(
     branch: usize,
     result: &mut [i16],
 ) -> Result<(), Refusal> {
-    let mut place = 0;
+    let mut place = [0; 2];
     // SAFETY: as in `figure_rows`.
     let number = unsafe {
         c::laguipy_step(
