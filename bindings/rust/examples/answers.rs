@@ -20,15 +20,15 @@
 //! - for the index, `batch`, and `index_rows`, for each of slots, answers and listing
 //!   the length of the row and what all its elements are before the call.
 //!
-//! And `answers`, an object for each call. All but the last have `number` and
-//! `place`, those of the refusal, both 0 for acceptance:
+//! And `answers`, an object for each call. All but the last have `number`, `place` and
+//! `second`, the number and the two places of the refusal, all 0 for acceptance:
 //!
 //! - `model`: the model check;
 //! - `graph`: the graph check; if accepted with `values`, which are the root value
 //!   and the nodes waiting, expanded, covered, target;
-//! - `figure`: `second` says whether the figures stand in the second row, `nodes` how
-//!   many they are, false and 0 if refused; `first_row` and `second_row` are the rows
-//!   after the call;
+//! - `figure`: `row` is 0 if the figures stand in the first row, 1 if in the second,
+//!   `nodes` how many they are, both 0 if refused; `first_row` and `second_row` are the
+//!   rows after the call;
 //! - `step`: `result` is the result row after the call;
 //! - `index`: `listed` is how many nodes are listed, 0 if refused; `slots`, after the
 //!   call, has slot and node for each slot that holds one, all others being 65,535, and
@@ -60,10 +60,11 @@ fn hex(bytes: &[u8]) -> String {
     bytes.iter().flat_map(|byte| [digit(byte >> 4), digit(byte & 15)]).collect()
 }
 
-/// Number and place, as two fields.
+/// Number and both places, as three fields.
 fn outcome<T>(answer: &Result<T, Refusal>) -> String {
-    let Refusal { number, place } = answer.as_ref().err().copied().unwrap_or(Refusal { number: 0, place: 0 });
-    format!(r#""number":{number},"place":{place}"#)
+    let accepted = Refusal { number: 0, place: 0, second: 0 };
+    let Refusal { number, place, second } = answer.as_ref().err().copied().unwrap_or(accepted);
+    format!(r#""number":{number},"place":{place},"second":{second}"#)
 }
 
 // Lists of numbers are written with `{:?}`, which is how JSON has them.
@@ -80,9 +81,9 @@ fn figure_answer(input: &Input, [mut first, mut second]: [Vec<u32>; 2]) -> Strin
     let answer = reference::figure(&input.model, &input.graph, input.h, &mut first, &mut second);
     let part = answer.unwrap_or(Part { second: false, nodes: 0 });
     format!(
-        r#"{{{},"second":{},"nodes":{},"first_row":{first:?},"second_row":{second:?}}}"#,
+        r#"{{{},"row":{},"nodes":{},"first_row":{first:?},"second_row":{second:?}}}"#,
         outcome(&answer),
-        part.second,
+        u8::from(part.second),
         part.nodes
     )
 }

@@ -8,6 +8,7 @@ use generate::large::Large;
 use generate::limits::limits;
 use generate::*;
 use laguipy::{Refusal, LAST_REFUSAL, MOST_NODES, MOST_STEPS, MOST_VARIABLES, SLOTS};
+use std::collections::HashMap;
 use std::ops::Range;
 
 /// How many inputs the test over seeds takes: at least one, so that it never passes
@@ -120,20 +121,66 @@ impl Drop for Seed {
     }
 }
 
+/// So many inputs are refused with every number; and one in so many meets what decides a
+/// second place.
+const SEEDS_FOR_ALL: u64 = 5_000;
+const SEEDS_FOR_ONE: u64 = 2_000;
+
 /// Acceptance, and every refusal.
 const NUMBERS: usize = LAST_REFUSAL as usize + 1;
 
-/// How often each number was answered, by call.
-type Tally = [[usize; CALLS]; NUMBERS];
+/// How often each number was answered, by call; and how often what decides a second
+/// place was met.
+struct Tally {
+    numbers: [[usize; CALLS]; NUMBERS],
+    situations: HashMap<&'static str, usize>,
+}
+
+impl Tally {
+    fn new() -> Tally {
+        Tally { numbers: [[0; CALLS]; NUMBERS], situations: HashMap::new() }
+    }
+
+    fn count(&mut self, input: &Input, numbers: [u32; CALLS]) {
+        for (call, number) in numbers.into_iter().enumerate() {
+            self.numbers[number as usize][call] += 1;
+        }
+        for name in reference::situations::met(&input.model, &input.graph) {
+            *self.situations.entry(name).or_default() += 1;
+        }
+    }
+
+    fn add(&mut self, other: Tally) {
+        for (sum, count) in self.numbers.iter_mut().flatten().zip(other.numbers.iter().flatten()) {
+            *sum += count;
+        }
+        for (name, count) in other.situations {
+            *self.situations.entry(name).or_default() += count;
+        }
+    }
+
+    fn print(&self) {
+        println!("number   model   graph  figure    step   index  (0 is acceptance)");
+        for (number, [model, graph, figure, step, index]) in self.numbers.iter().enumerate() {
+            println!("{number:6} {model:7} {graph:7} {figure:7} {step:7} {index:7}");
+        }
+        for name in reference::situations::names() {
+            println!("{:7} {name}", self.met(name));
+        }
+    }
+
+    fn met(&self, situation: &str) -> usize {
+        self.situations.get(situation).copied().unwrap_or(0)
+    }
+}
 
 fn compare_seeds(seeds: Range<u64>) -> Tally {
-    let mut tally = [[0; CALLS]; NUMBERS];
+    let mut tally = Tally::new();
     for seed in seeds {
         let _said = Seed(seed);
         let input = input(seed);
-        for (call, number) in compare(&input).into_iter().enumerate() {
-            tally[number as usize][call] += 1;
-        }
+        let numbers = compare(&input);
+        tally.count(&input, numbers);
     }
     tally
 }
@@ -142,25 +189,24 @@ fn compare_seeds(seeds: Range<u64>) -> Tally {
 fn random_inputs() {
     let count = cases();
     let threads = std::thread::available_parallelism().map_or(1, usize::from) as u64;
-    let mut tally = [[0; CALLS]; NUMBERS];
+    let mut tally = Tally::new();
     std::thread::scope(|scope| {
         let part = |k: u64| k * count / threads..(k + 1) * count / threads;
         let running: Vec<_> = (0..threads).map(|k| scope.spawn(move || compare_seeds(part(k)))).collect();
         for thread in running {
-            let counts = thread.join().expect("every input is answered as the plain calls answer it");
-            for (sum, count) in tally.iter_mut().flatten().zip(counts.iter().flatten()) {
-                *sum += count;
-            }
+            tally.add(thread.join().expect("every input is answered as the plain calls answer it"));
         }
     });
     println!("{count} inputs");
-    println!("number   model   graph  figure    step   index  (0 is acceptance)");
-    for (number, [model, graph, figure, step, index]) in tally.iter().enumerate() {
-        println!("{number:6} {model:7} {graph:7} {figure:7} {step:7} {index:7}");
-    }
-    if count >= 5_000 {
-        for (number, counts) in tally.iter().enumerate() {
+    tally.print();
+    if count >= SEEDS_FOR_ALL {
+        for (number, counts) in tally.numbers.iter().enumerate() {
             assert!(counts.iter().any(|&count| count > 0), "no input is refused with {number}");
+        }
+        let least = (count / SEEDS_FOR_ONE) as usize;
+        for name in reference::situations::names() {
+            let met = tally.met(name);
+            assert!(met >= least, "{met} inputs, but there should be {least}: {name}");
         }
     }
 }
@@ -173,6 +219,7 @@ fn limits_of_the_crate() {
     );
     assert_eq!([laguipy::CERTAIN, LAST_REFUSAL], [data::CERTAIN, data::LAST_REFUSAL]);
     assert_eq!((SLOTS, laguipy::NO_NODE), (data::SLOTS, data::NO_NODE));
+    assert_eq!(laguipy::NO_VARIABLE, data::NO_VARIABLE);
 }
 
 #[test]

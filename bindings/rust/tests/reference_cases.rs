@@ -20,7 +20,12 @@ fn cases() -> u64 {
 }
 
 fn refused(number: u32, place: usize) -> Refusal {
-    Refusal { number, place }
+    refused_for(number, place, 0)
+}
+
+/// A refusal with 19 or 21, whose second place is a variable or stands for none.
+fn refused_for(number: u32, place: usize, second: usize) -> Refusal {
+    Refusal { number, place, second }
 }
 
 /// The rows of a figure call: before it first and second, after it the same.
@@ -103,7 +108,7 @@ fn pedal_as_printed() {
 }
 
 /// A change to the pedal example, and what the graph check then says.
-type Case = (&'static str, fn(&mut ModelData, &mut GraphData), Option<(u32, usize)>);
+type Case = (&'static str, fn(&mut ModelData, &mut GraphData), Option<Refusal>);
 
 fn track(node: &mut NodeData, variable: usize) {
     node.tracked |= 1 << variable;
@@ -120,28 +125,28 @@ fn check_cases(cases: &[Case]) {
         let (mut model, mut graph) = pedal();
         change(&mut model, &mut graph);
         let answer = graph_check(&model.bytes(), &graph.bytes()).err();
-        assert_eq!(answer, expected.map(|(number, place)| refused(number, place)), "{name}");
+        assert_eq!(answer, *expected, "{name}");
     }
 }
 
 #[test]
 fn pedal_listed_cases() {
     check_cases(&[
-        ("root value 9,999,999", |_, g| g.nodes[0].value = 9_999_999, Some((25, 0))),
-        ("node 3 covered by 4", |_, g| g.nodes[3].cover = 4, Some((22, 3))),
-        ("node 3 covered by itself", |_, g| g.nodes[3].cover = 3, Some((22, 3))),
+        ("root value 9,999,999", |_, g| g.nodes[0].value = 9_999_999, Some(refused(25, 0))),
+        ("node 3 covered by 4", |_, g| g.nodes[3].cover = 4, Some(refused(22, 3))),
+        ("node 3 covered by itself", |_, g| g.nodes[3].cover = 3, Some(refused(22, 3))),
         ("node 5 waiting", |_, g| g.nodes[5].kind = WAITING, None),
-        ("node 0 tracks nothing", |_, g| untrack(&mut g.nodes[0]), Some((19, 0))),
+        ("node 0 tracks nothing", |_, g| untrack(&mut g.nodes[0]), Some(refused_for(19, 0, 0))),
         (
             "node 0 without its second edge",
             |_, g| {
                 g.nodes[0].edges.pop();
                 g.nodes[0].edge_count = 1;
             },
-            Some((20, 0)),
+            Some(refused(20, 0)),
         ),
-        ("node 3 tracks d = 1 too", |_, g| track(&mut g.nodes[3], 1), Some((21, 0))),
-        ("node 2's label says a = 0", |_, g| g.nodes[2].label[0] = 0, Some((21, 0))),
+        ("node 3 tracks d = 1 too", |_, g| track(&mut g.nodes[3], 1), Some(refused_for(21, 0, 1))),
+        ("node 2's label says a = 0", |_, g| g.nodes[2].label[0] = 0, Some(refused_for(21, 0, 0))),
     ]);
 
     let (model, mut graph) = pedal();
@@ -297,79 +302,83 @@ fn rows_of_the_model() {
 fn rows_of_the_model_by_field() {
     check_cases(&[
         // Row 4.
-        ("crossed", |m, _| m.variables[0] = [3, 0, 0], Some((4, 0))),
-        ("low under", |m, _| m.variables[1] = [-BOUND - 1, 1, 0], Some((4, 1))),
-        ("high over", |m, _| m.variables[1] = [0, BOUND + 1, 0], Some((4, 1))),
-        ("initial under", |m, _| m.variables[1][2] = -1, Some((4, 1))),
-        ("initial over", |m, _| m.variables[1][2] = 2, Some((4, 1))),
+        ("crossed", |m, _| m.variables[0] = [3, 0, 0], Some(refused(4, 0))),
+        ("low under", |m, _| m.variables[1] = [-BOUND - 1, 1, 0], Some(refused(4, 1))),
+        ("high over", |m, _| m.variables[1] = [0, BOUND + 1, 0], Some(refused(4, 1))),
+        ("initial under", |m, _| m.variables[1][2] = -1, Some(refused(4, 1))),
+        ("initial over", |m, _| m.variables[1][2] = 2, Some(refused(4, 1))),
         // Row 5.
-        ("operation 15", |m, _| m.entries[11] = [15, 0, 0, 0], Some((5, 11))),
-        ("operation 65,535", |m, _| m.entries[3][0] = 65_535, Some((5, 3))),
-        ("no such variable", |m, _| m.entries[1][1] = 2, Some((5, 1))),
-        ("part itself", |m, _| m.entries[9][1] = 9, Some((5, 9))),
-        ("part higher", |m, _| m.entries[9][2] = 10, Some((5, 9))),
-        ("part missing", |m, _| m.entries[9][2] = 12, Some((5, 9))),
-        ("number of a truth", |m, _| m.entries[9][2] = 6, Some((5, 9))),
-        ("compares a truth", |m, _| m.entries[8][1] = 7, Some((5, 8))),
-        ("not of a number", |m, _| m.entries[11] = [11, 1, 0, 0], Some((5, 11))),
-        ("and of a number", |m, _| m.entries[11] = [12, 6, 1, 0], Some((5, 11))),
-        ("or of a number", |m, _| m.entries[11] = [13, 1, 6, 0], Some((5, 11))),
-        ("if of a number", |m, _| m.entries[11] = [7, 0, 0, 0], Some((5, 11))),
-        ("if with a truth second", |m, _| m.entries[11] = [7, 6, 6, 0], Some((5, 11))),
-        ("if with a truth third", |m, _| m.entries[11] = [7, 6, 0, 6], Some((5, 11))),
-        ("constant, second field", |m, _| m.entries[2][2] = 1, Some((5, 2))),
-        ("constant, third field", |m, _| m.entries[2][3] = 1, Some((5, 2))),
-        ("variable, second field", |m, _| m.entries[1][2] = 1, Some((5, 1))),
-        ("add, third field", |m, _| m.entries[9][3] = 1, Some((5, 9))),
-        ("equal, third field", |m, _| m.entries[6][3] = 1, Some((5, 6))),
-        ("not, second field", |m, _| m.entries.push([11, 6, 1, 0]), Some((5, 12))),
-        ("not, third field", |m, _| m.entries.push([11, 6, 0, 1]), Some((5, 12))),
-        ("and, third field", |m, _| m.entries.push([12, 6, 7, 1]), Some((5, 12))),
-        ("true, first field", |m, _| m.entries.push([14, 1, 0, 0]), Some((5, 12))),
-        ("true, second field", |m, _| m.entries.push([14, 0, 1, 0]), Some((5, 12))),
-        ("true, third field", |m, _| m.entries.push([14, 0, 0, 1]), Some((5, 12))),
+        ("operation 15", |m, _| m.entries[11] = [15, 0, 0, 0], Some(refused(5, 11))),
+        ("operation 65,535", |m, _| m.entries[3][0] = 65_535, Some(refused(5, 3))),
+        ("no such variable", |m, _| m.entries[1][1] = 2, Some(refused(5, 1))),
+        ("part itself", |m, _| m.entries[9][1] = 9, Some(refused(5, 9))),
+        ("part higher", |m, _| m.entries[9][2] = 10, Some(refused(5, 9))),
+        ("part missing", |m, _| m.entries[9][2] = 12, Some(refused(5, 9))),
+        ("number of a truth", |m, _| m.entries[9][2] = 6, Some(refused(5, 9))),
+        ("compares a truth", |m, _| m.entries[8][1] = 7, Some(refused(5, 8))),
+        ("not of a number", |m, _| m.entries[11] = [11, 1, 0, 0], Some(refused(5, 11))),
+        ("and of a number", |m, _| m.entries[11] = [12, 6, 1, 0], Some(refused(5, 11))),
+        ("or of a number", |m, _| m.entries[11] = [13, 1, 6, 0], Some(refused(5, 11))),
+        ("if of a number", |m, _| m.entries[11] = [7, 0, 0, 0], Some(refused(5, 11))),
+        ("if with a truth second", |m, _| m.entries[11] = [7, 6, 6, 0], Some(refused(5, 11))),
+        ("if with a truth third", |m, _| m.entries[11] = [7, 6, 0, 6], Some(refused(5, 11))),
+        ("constant, second field", |m, _| m.entries[2][2] = 1, Some(refused(5, 2))),
+        ("constant, third field", |m, _| m.entries[2][3] = 1, Some(refused(5, 2))),
+        ("variable, second field", |m, _| m.entries[1][2] = 1, Some(refused(5, 1))),
+        ("add, third field", |m, _| m.entries[9][3] = 1, Some(refused(5, 9))),
+        ("equal, third field", |m, _| m.entries[6][3] = 1, Some(refused(5, 6))),
+        ("not, second field", |m, _| m.entries.push([11, 6, 1, 0]), Some(refused(5, 12))),
+        ("not, third field", |m, _| m.entries.push([11, 6, 0, 1]), Some(refused(5, 12))),
+        ("and, third field", |m, _| m.entries.push([12, 6, 7, 1]), Some(refused(5, 12))),
+        ("true, first field", |m, _| m.entries.push([14, 1, 0, 0]), Some(refused(5, 12))),
+        ("true, second field", |m, _| m.entries.push([14, 0, 1, 0]), Some(refused(5, 12))),
+        ("true, third field", |m, _| m.entries.push([14, 0, 0, 1]), Some(refused(5, 12))),
         ("all right", |m, _| m.entries.extend([[11, 6, 0, 0], [12, 6, 7, 0], [14, 0, 0, 0]]), None),
         // Row 6, and that 5 of a later entry comes first.
         (
             "too large",
             |m, _| m.entries.extend([[0, 1_001, 0, 0], [0, 1_000, 0, 0], [4, 12, 13, 0]]),
-            Some((6, 14)),
+            Some(refused(6, 14)),
         ),
         (
             "too large, then too deep",
             |m, _| {
                 m.entries.extend([[0, 1_001, 0, 0], [0, 1_000, 0, 0], [4, 12, 13, 0], [15, 0, 0, 0]]);
             },
-            Some((5, 15)),
+            Some(refused(5, 15)),
         ),
         ("a truth has no range", |m, _| m.entries.extend([[0, 30_000, 0, 0], [10, 12, 12, 0]]), None),
         // Row 7.
-        ("D is 0", |m, _| m.total = 0, Some((7, 0))),
-        ("target a number", |m, _| m.target = 0, Some((7, 1))),
-        ("target missing", |m, _| m.target = 12, Some((7, 1))),
-        ("both", |m, _| (m.total, m.target) = (0, 12), Some((7, 0))),
+        ("D is 0", |m, _| m.total = 0, Some(refused(7, 0))),
+        ("target a number", |m, _| m.target = 0, Some(refused(7, 1))),
+        ("target missing", |m, _| m.target = 12, Some(refused(7, 1))),
+        ("both", |m, _| (m.total, m.target) = (0, 12), Some(refused(7, 0))),
         // Row 8.
-        ("guard a number", |m, _| m.commands[1][0] = 9, Some((8, 1))),
-        ("guard missing", |m, _| m.commands[0][0] = 12, Some((8, 0))),
-        ("no branches", |m, _| m.commands[1][1] = 0, Some((8, 1))),
-        ("17 branches", |m, _| m.commands[0][1] = 17, Some((8, 0))),
+        ("guard a number", |m, _| m.commands[1][0] = 9, Some(refused(8, 1))),
+        ("guard missing", |m, _| m.commands[0][0] = 12, Some(refused(8, 0))),
+        ("no branches", |m, _| m.commands[1][1] = 0, Some(refused(8, 1))),
+        ("17 branches", |m, _| m.commands[0][1] = 17, Some(refused(8, 0))),
         // Row 9.
-        ("branches over", |m, _| m.commands[0][1] = 1, Some((9, 0))),
-        ("branches short", |m, _| m.commands[1][1] = 2, Some((9, 0))),
+        ("branches over", |m, _| m.commands[0][1] = 1, Some(refused(9, 0))),
+        ("branches short", |m, _| m.commands[1][1] = 2, Some(refused(9, 0))),
         // Row 10.
-        ("weight 0", |m, _| m.branches[1][0] = 0, Some((10, 1))),
-        ("assigned a truth", |m, _| m.branches[2][2] = 6, Some((10, 2))),
-        ("assigned missing", |m, _| m.branches[2][1] = 12, Some((10, 2))),
-        ("assigned too wide", |m, _| m.branches[1][1] = 9, Some((10, 1))),
-        ("assigned too low", |m, _| m.entries[11] = [3, 1, 5, 0], Some((10, 2))),
-        ("a' = d fits, but is not known", |m, _| m.branches[2][1] = 1, Some((21, 0))),
-        ("d' = a does not", |m, _| m.branches[0][2] = 0, Some((10, 0))),
+        ("weight 0", |m, _| m.branches[1][0] = 0, Some(refused(10, 1))),
+        ("assigned a truth", |m, _| m.branches[2][2] = 6, Some(refused(10, 2))),
+        ("assigned missing", |m, _| m.branches[2][1] = 12, Some(refused(10, 2))),
+        ("assigned too wide", |m, _| m.branches[1][1] = 9, Some(refused(10, 1))),
+        ("assigned too low", |m, _| m.entries[11] = [3, 1, 5, 0], Some(refused(10, 2))),
+        ("a' = d fits, but is not known", |m, _| m.branches[2][1] = 1, Some(refused_for(21, 0, 0))),
+        ("d' = a does not", |m, _| m.branches[0][2] = 0, Some(refused(10, 0))),
         // Row 11, and that 10 of a later command comes first.
-        ("weights under", |m, _| m.branches[0][0] = 8, Some((11, 0))),
-        ("weights over", |m, _| m.branches[2][0] = 11, Some((11, 1))),
-        ("weights that come round", |m, _| m.branches[0][0] = 65_535, Some((11, 0))),
-        ("D", |m, _| m.total = 9, Some((11, 0))),
-        ("weights under, then weight 0", |m, _| (m.branches[0][0], m.branches[2][0]) = (8, 0), Some((10, 2))),
+        ("weights under", |m, _| m.branches[0][0] = 8, Some(refused(11, 0))),
+        ("weights over", |m, _| m.branches[2][0] = 11, Some(refused(11, 1))),
+        ("weights that come round", |m, _| m.branches[0][0] = 65_535, Some(refused(11, 0))),
+        ("D", |m, _| m.total = 9, Some(refused(11, 0))),
+        (
+            "weights under, then weight 0",
+            |m, _| (m.branches[0][0], m.branches[2][0]) = (8, 0),
+            Some(refused(10, 2)),
+        ),
     ]);
 }
 
@@ -420,47 +429,47 @@ fn rows_of_the_graph() {
 fn rows_of_the_graph_by_field() {
     check_cases(&[
         // Row 15.
-        ("kind 4", |_, g| g.nodes[5].kind = 4, Some((15, 5))),
-        ("kind 256", |_, g| g.nodes[5].kind = 256, Some((15, 5))),
-        ("value over S", |_, g| g.nodes[2].value = CERTAIN + 1, Some((15, 2))),
-        ("value with its high bit", |_, g| g.nodes[2].value = 1 << 31, Some((15, 2))),
-        ("expanded with a cover", |_, g| g.nodes[1].cover = 1, Some((15, 1))),
-        ("target with a cover", |_, g| g.nodes[5].cover = 1, Some((15, 5))),
-        ("covered with edges", |_, g| g.nodes[3].edge_count = 1, Some((15, 3))),
-        ("target with edges", |_, g| g.nodes[5].edge_count = 1, Some((15, 5))),
-        ("bit 2", |_, g| g.nodes[3].tracked = 5, Some((15, 3))),
-        ("bit 15", |_, g| g.nodes[3].tracked = 0x8001, Some((15, 3))),
-        ("concrete over", |_, g| g.nodes[3].concrete[1] = 2, Some((15, 3))),
-        ("concrete under", |_, g| g.nodes[3].concrete[0] = -1, Some((15, 3))),
-        ("label of an untracked one", |_, g| g.nodes[3].label[1] = 1, Some((15, 3))),
-        ("label of a tracked one out of range", |_, g| g.nodes[0].label[0] = 9, Some((18, 0))),
+        ("kind 4", |_, g| g.nodes[5].kind = 4, Some(refused(15, 5))),
+        ("kind 256", |_, g| g.nodes[5].kind = 256, Some(refused(15, 5))),
+        ("value over S", |_, g| g.nodes[2].value = CERTAIN + 1, Some(refused(15, 2))),
+        ("value with its high bit", |_, g| g.nodes[2].value = 1 << 31, Some(refused(15, 2))),
+        ("expanded with a cover", |_, g| g.nodes[1].cover = 1, Some(refused(15, 1))),
+        ("target with a cover", |_, g| g.nodes[5].cover = 1, Some(refused(15, 5))),
+        ("covered with edges", |_, g| g.nodes[3].edge_count = 1, Some(refused(15, 3))),
+        ("target with edges", |_, g| g.nodes[5].edge_count = 1, Some(refused(15, 5))),
+        ("bit 2", |_, g| g.nodes[3].tracked = 5, Some(refused(15, 3))),
+        ("bit 15", |_, g| g.nodes[3].tracked = 0x8001, Some(refused(15, 3))),
+        ("concrete over", |_, g| g.nodes[3].concrete[1] = 2, Some(refused(15, 3))),
+        ("concrete under", |_, g| g.nodes[3].concrete[0] = -1, Some(refused(15, 3))),
+        ("label of an untracked one", |_, g| g.nodes[3].label[1] = 1, Some(refused(15, 3))),
+        ("label of a tracked one out of range", |_, g| g.nodes[0].label[0] = 9, Some(refused(18, 0))),
         (
             "15 of a later node before 16",
             |_, g| {
                 g.nodes[0].edges[0].command = 9;
                 g.nodes[5].kind = 4;
             },
-            Some((15, 5)),
+            Some(refused(15, 5)),
         ),
         // Row 16.
-        ("no such command", |_, g| g.nodes[2].edges[0].command = 2, Some((16, 2))),
-        ("no such successor", |_, g| g.nodes[2].edges[0].successors[1] = 6, Some((16, 2))),
-        ("edges short", |_, g| g.nodes[2].edge_count = 2, Some((16, 2))),
-        ("bytes over", |_, g| g.nodes[0].edge_count = 1, Some((16, 6))),
+        ("no such command", |_, g| g.nodes[2].edges[0].command = 2, Some(refused(16, 2))),
+        ("no such successor", |_, g| g.nodes[2].edges[0].successors[1] = 6, Some(refused(16, 2))),
+        ("edges short", |_, g| g.nodes[2].edge_count = 2, Some(refused(16, 2))),
+        ("bytes over", |_, g| g.nodes[0].edge_count = 1, Some(refused(16, 6))),
         // Row 17.
-        ("root is not initial", |_, g| g.nodes[0].concrete[1] = 1, Some((17, 0))),
-        ("initial is not the root's", |m, _| m.variables[1][2] = 1, Some((17, 0))),
+        ("root is not initial", |_, g| g.nodes[0].concrete[1] = 1, Some(refused(17, 0))),
+        ("initial is not the root's", |m, _| m.variables[1][2] = 1, Some(refused(17, 0))),
         (
             "16 before 17",
             |_, g| {
                 g.nodes[0].concrete[1] = 1;
                 g.nodes[2].edge_count = 2;
             },
-            Some((16, 2)),
+            Some(refused(16, 2)),
         ),
         // Row 18.
-        ("root's label", |_, g| g.nodes[0].label[0] = 1, Some((18, 0))),
-        ("a label after it", |_, g| g.nodes[5].label[0] = 3, Some((21, 2))),
+        ("root's label", |_, g| g.nodes[0].label[0] = 1, Some(refused(18, 0))),
+        ("a label after it", |_, g| g.nodes[5].label[0] = 3, Some(refused_for(21, 2, 0))),
         (
             "a label that nobody leads to",
             |_, g| {
@@ -469,44 +478,52 @@ fn rows_of_the_graph_by_field() {
                 node.label[0] = 1;
                 g.nodes.push(node);
             },
-            Some((18, 6)),
+            Some(refused(18, 6)),
         ),
         // Row 19.
-        ("guard unknown", |_, g| untrack(&mut g.nodes[2]), Some((19, 2))),
-        ("target expanded", |_, g| g.nodes[5].kind = EXPANDED, Some((19, 5))),
-        ("dead end a target", |_, g| g.nodes[1].kind = TARGET, Some((19, 1))),
-        ("target unknown", |_, g| untrack(&mut g.nodes[5]), Some((19, 5))),
-        ("d for a", |_, g| g.nodes[0].tracked = 2, Some((19, 0))),
+        ("guard unknown", |_, g| untrack(&mut g.nodes[2]), Some(refused_for(19, 2, 0))),
+        ("target expanded", |_, g| g.nodes[5].kind = EXPANDED, Some(refused_for(19, 5, NO_VARIABLE))),
+        ("dead end a target", |_, g| g.nodes[1].kind = TARGET, Some(refused_for(19, 1, NO_VARIABLE))),
+        ("target unknown", |_, g| untrack(&mut g.nodes[5]), Some(refused_for(19, 5, 0))),
+        ("d for a", |_, g| g.nodes[0].tracked = 2, Some(refused_for(19, 0, 0))),
         // Row 20.
-        ("edges the other way round", |_, g| g.nodes[0].edges.swap(0, 1), Some((20, 0))),
-        ("an edge twice", |_, g| g.nodes[0].edges[1] = g.nodes[0].edges[0].clone(), Some((20, 0))),
-        ("an edge more", |_, g| g.nodes[2].push_edge(1, vec![3]), Some((20, 2))),
-        ("an edge of a dead end", |_, g| g.nodes[1].push_edge(1, vec![3]), Some((20, 1))),
+        ("edges the other way round", |_, g| g.nodes[0].edges.swap(0, 1), Some(refused(20, 0))),
+        ("an edge twice", |_, g| g.nodes[0].edges[1] = g.nodes[0].edges[0].clone(), Some(refused(20, 0))),
+        ("an edge more", |_, g| g.nodes[2].push_edge(1, vec![3]), Some(refused(20, 2))),
+        ("an edge of a dead end", |_, g| g.nodes[1].push_edge(1, vec![3]), Some(refused(20, 1))),
         // Row 21.
-        ("successors the other way round", |_, g| g.nodes[0].edges[0].successors.swap(0, 1), Some((21, 0))),
-        ("concrete label of a successor", |_, g| g.nodes[3].concrete[1] = 0, Some((21, 0))),
+        (
+            "successors the other way round",
+            |_, g| g.nodes[0].edges[0].successors.swap(0, 1),
+            Some(refused_for(21, 0, NO_VARIABLE)),
+        ),
+        (
+            "concrete label of a successor",
+            |_, g| g.nodes[3].concrete[1] = 0,
+            Some(refused_for(21, 0, NO_VARIABLE)),
+        ),
         ("same state elsewhere", |_, g| g.nodes[0].edges[0].successors[0] = 4, None),
         // Row 22, 23, 24.
-        ("cover missing", |_, g| g.nodes[4].cover = 6, Some((22, 4))),
-        ("cover covered", |_, g| g.nodes[4].cover = 3, Some((22, 4))),
-        ("outside the cover", |_, g| g.nodes[3].cover = 1, Some((23, 3))),
-        ("outside a target", |_, g| g.nodes[4].cover = 5, Some((23, 4))),
-        ("cover tracks more", |_, g| untrack(&mut g.nodes[3]), Some((24, 3))),
-        ("cover tracks d", |_, g| track(&mut g.nodes[0], 1), Some((23, 3))),
+        ("cover missing", |_, g| g.nodes[4].cover = 6, Some(refused(22, 4))),
+        ("cover covered", |_, g| g.nodes[4].cover = 3, Some(refused(22, 4))),
+        ("outside the cover", |_, g| g.nodes[3].cover = 1, Some(refused(23, 3))),
+        ("outside a target", |_, g| g.nodes[4].cover = 5, Some(refused(23, 4))),
+        ("cover tracks more", |_, g| untrack(&mut g.nodes[3]), Some(refused(24, 3))),
+        ("cover tracks d", |_, g| track(&mut g.nodes[0], 1), Some(refused(23, 3))),
         // Row 25.
-        ("value of node 2", |_, g| g.nodes[2].value = 99_999_999, Some((25, 2))),
-        ("value under the cover's", |_, g| g.nodes[3].value = 9_999_999, Some((25, 3))),
-        ("value over the cover's", |_, g| g.nodes[3].value = 10_000_001, Some((25, 0))),
-        ("target under S", |_, g| g.nodes[5].value = CERTAIN - 1, Some((25, 5))),
+        ("value of node 2", |_, g| g.nodes[2].value = 99_999_999, Some(refused(25, 2))),
+        ("value under the cover's", |_, g| g.nodes[3].value = 9_999_999, Some(refused(25, 3))),
+        ("value over the cover's", |_, g| g.nodes[3].value = 10_000_001, Some(refused(25, 0))),
+        ("target under S", |_, g| g.nodes[5].value = CERTAIN - 1, Some(refused(25, 5))),
         (
             "waiting under S",
             |_, g| {
                 g.nodes[5].kind = WAITING;
                 g.nodes[5].value = CERTAIN - 1;
             },
-            Some((25, 5)),
+            Some(refused(25, 5)),
         ),
-        ("dead end, one unit", |_, g| g.nodes[1].value = 1, Some((25, 0))),
+        ("dead end, one unit", |_, g| g.nodes[1].value = 1, Some(refused(25, 0))),
         (
             "dead end, any value",
             |_, g| {
@@ -527,7 +544,7 @@ fn rows_of_the_graph_by_field() {
                     g.nodes[node].value = value;
                 }
             },
-            Some((25, 0)),
+            Some(refused(25, 0)),
         ),
         ("S everywhere", |_, g| g.nodes.iter_mut().for_each(|node| node.value = CERTAIN), None),
         (
@@ -537,7 +554,7 @@ fn rows_of_the_graph_by_field() {
                 g.nodes[4].label[0] = 1;
                 g.nodes[4].tracked = 1;
             },
-            Some((21, 2)),
+            Some(refused_for(21, 2, 0)),
         ),
         (
             "25 of node 0 before 19 of node 1",
@@ -545,7 +562,7 @@ fn rows_of_the_graph_by_field() {
                 g.nodes[0].value = 0;
                 untrack(&mut g.nodes[1]);
             },
-            Some((25, 0)),
+            Some(refused(25, 0)),
         ),
         ("root alone, waiting", |_, g| g.nodes = vec![NodeData::new(WAITING, CERTAIN, 0, &[0, 0])], None),
     ]);
@@ -615,13 +632,17 @@ fn readings_are_three_way() {
         ([10, 0, 3, 0], Some(true)),
     ] {
         let expected = |edge| match reading {
-            None => Err(refused(19, 0)),
+            None => Err(refused_for(19, 0, 1)),
             Some(enabled) if enabled == edge => Ok(()),
             Some(_) => Err(refused(20, 0)),
         };
         assert_eq!(as_guard(truth, false), expected(false), "{truth:?}");
         assert_eq!(as_guard(truth, true), expected(true), "{truth:?}");
-        let when = |holds: bool| if holds { Ok(()) } else { Err(refused(19, 0)) };
+        let when = |holds: bool| match reading {
+            _ if holds => Ok(()),
+            None => Err(refused_for(19, 0, 1)),
+            Some(_) => Err(refused_for(19, 0, NO_VARIABLE)),
+        };
         assert_eq!(as_target(truth, EXPANDED), when(reading == Some(false)), "{truth:?}");
         assert_eq!(as_target(truth, TARGET), when(reading == Some(true)), "{truth:?}");
         assert_eq!(as_target(truth, WAITING), Ok(()), "{truth:?}");
@@ -1138,7 +1159,7 @@ fn values_and_figures_bound_the_best_chances() {
 
 #[test]
 fn steps_agree_with_plain_recursion() {
-    let (mut answered, mut refused) = (0, 0);
+    let (mut answered, mut disabled) = (0, 0);
     for seed in 0..cases() / 8 {
         let random = &mut Random::new(1 << 42 | seed);
         let Pair { model, graph } = Pair::small(random);
@@ -1149,8 +1170,8 @@ fn steps_agree_with_plain_recursion() {
                     let mut result = vec![0; node.concrete.len()];
                     let answer = step(&bytes, &node.concrete, command, branch, &mut result);
                     if meaning(&model, model.commands[command][0], &node.concrete) == 0 {
-                        assert_eq!(answer, Err(Refusal { number: 32, place: command }));
-                        refused += 1;
+                        assert_eq!(answer, Err(refused(32, command)));
+                        disabled += 1;
                     } else {
                         assert_eq!(answer, Ok(()));
                         let entries = &model.branches_of(command)[branch][1..];
@@ -1162,6 +1183,6 @@ fn steps_agree_with_plain_recursion() {
             }
         }
     }
-    println!("{answered} steps, {refused} with a guard that is false");
-    assert!(answered > 0 && refused > 0);
+    println!("{answered} steps, {disabled} with a guard that is false");
+    assert!(answered > 0 && disabled > 0);
 }

@@ -59,6 +59,8 @@ pub const MOST_STEPS: usize = 10_000;
 pub const SLOTS: usize = 8_192;
 /// What stands for no node, in an empty slot or as an answer.
 pub const NO_NODE: u16 = 65_535;
+/// What stands for no variable, as the second place of a refusal.
+pub const NO_VARIABLE: usize = 65_535;
 pub const MOST_DEPTH: u32 = 12;
 /// A variable's range lies within this and its negative.
 pub const BOUND: i16 = 30_000;

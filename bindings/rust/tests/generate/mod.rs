@@ -12,6 +12,7 @@ pub mod limits;
 pub mod models;
 pub mod mutate;
 pub mod random;
+pub mod seconds;
 pub mod states;
 
 use data::*;
@@ -233,7 +234,7 @@ impl Pair {
 /// The input of a seed.
 pub fn input(seed: u64) -> Input {
     let random = &mut Random::new(seed);
-    match random.below(20) {
+    match random.below(23) {
         0..=5 => Pair::any(random).input(random, "valid"),
         6 => states::shared(random).input(random, "few states"),
         7..=9 => mutate::near_model(random),
@@ -243,6 +244,7 @@ pub fn input(seed: u64) -> Input {
             mutate::aimed(random, number)
         }
         17..=18 => mutate::damaged(random),
-        _ => mutate::tiny(random),
+        19 => mutate::tiny(random),
+        _ => seconds::refused(random),
     }
 }

@@ -174,6 +174,7 @@ pub fn model(random: &mut Random, shape: &Shape) -> ModelData {
         } else {
             truth(&mut builder, random, shape.depth)
         };
+        let guard = mention_more(&mut builder, random, guard);
         let count = 1 + random.below(shape.branches.min(usize::from(shape.total)));
         let weights = weights(random, shape.total, count);
         let mut branches = Vec::new();
@@ -189,8 +190,44 @@ pub fn model(random: &mut Random, shape: &Shape) -> ModelData {
         }
         builder.command(guard, branches);
     }
-    builder.model.target = target(&mut builder, random, shape.depth);
+    let target = target(&mut builder, random, shape.depth);
+    builder.model.target = mention_more(&mut builder, random, target);
     builder.model
+}
+
+/// Often a truth that mentions one more variable, a low one rather, and reads as the one
+/// given in every label: the part that mentions it is known, whatever it is.
+fn mention_more(builder: &mut Builder, random: &mut Random, truth: u16) -> u16 {
+    let most = 1 + random.below(builder.model.variables.len());
+    let variable = random.below(most) as u16;
+    let mentioned = match random.below(4) {
+        0 => and_true_or(builder, truth, variable),
+        1 => false_and_or(builder, truth, variable),
+        _ => None,
+    };
+    mentioned.unwrap_or(truth)
+}
+
+/// The truth, and: a variable is below itself, or true.
+fn and_true_or(builder: &mut Builder, truth: u16, variable: u16) -> Option<u16> {
+    let below = below_itself(builder, variable)?;
+    let always = builder.put([14, 0, 0, 0])?;
+    let known = builder.put([13, below, always, 0])?;
+    builder.put([12, truth, known, 0])
+}
+
+/// Not true, and a variable is below itself; or the truth.
+fn false_and_or(builder: &mut Builder, truth: u16, variable: u16) -> Option<u16> {
+    let below = below_itself(builder, variable)?;
+    let always = builder.put([14, 0, 0, 0])?;
+    let never = builder.put([11, always, 0, 0])?;
+    let known = builder.put([12, never, below, 0])?;
+    builder.put([13, known, truth, 0])
+}
+
+fn below_itself(builder: &mut Builder, variable: u16) -> Option<u16> {
+    let variable = builder.put([1, variable, 0, 0])?;
+    builder.put([9, variable, variable, 0])
 }
 
 /// A truth that, if one is found, does not hold at first, and then does.

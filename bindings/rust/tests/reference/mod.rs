@@ -7,6 +7,8 @@
 //! per entry.
 #![allow(dead_code)]
 
+pub mod situations;
+
 use laguipy::{Refusal, Summary};
 use std::ops::{Range, RangeInclusive};
 
@@ -30,10 +32,14 @@ const SLOTS: usize = 8_192;
 /// What stands for no node, in an empty slot or as an answer.
 pub const NO_NODE: u16 = 65_535;
 
+/// What stands for no variable, as the second place of a refusal.
+const NO_VARIABLE: usize = 65_535;
+
 type Checked<T> = Result<T, Refusal>;
 
+/// A refusal by any number but 19 and 21, which alone have a second place.
 fn refuse<T>(number: u32, place: usize) -> Checked<T> {
-    Err(Refusal { number, place })
+    Err(Refusal { number, place, second: 0 })
 }
 
 fn ensure(holds: bool, number: u32, place: usize) -> Checked<()> {
@@ -161,13 +167,12 @@ impl Entry {
         (unused == [0, 0]).then_some(entry)
     }
 
-    /// A leaf has depth 1, any other entry one more than its deepest part.
-    fn depth(&self, lower: &[u32]) -> u32 {
+    fn parts(&self) -> impl Iterator<Item = usize> {
         use Entry::*;
-        match *self {
-            Constant(_) | Variable(_) | True => 1,
-            Not(a) => 1 + lower[a],
-            If(a, b, c) => 1 + lower[a].max(lower[b]).max(lower[c]),
+        let parts = match *self {
+            Constant(_) | Variable(_) | True => [None; 3],
+            Not(a) => [Some(a), None, None],
+            If(a, b, c) => [Some(a), Some(b), Some(c)],
             Add(a, b)
             | Subtract(a, b)
             | Multiply(a, b)
@@ -177,8 +182,14 @@ impl Entry {
             | Less(a, b)
             | AtMost(a, b)
             | And(a, b)
-            | Or(a, b) => 1 + lower[a].max(lower[b]),
-        }
+            | Or(a, b) => [Some(a), Some(b), None],
+        };
+        parts.into_iter().flatten()
+    }
+
+    /// A leaf has depth 1, any other entry one more than its deepest part.
+    fn depth(&self, lower: &[u32]) -> u32 {
+        1 + self.parts().map(|part| lower[part]).max().unwrap_or(0)
     }
 
     /// The range of a number, from those of its parts; a truth has none.
@@ -431,6 +442,41 @@ impl Model {
             table.push(reading);
         }
     }
+
+    /// Whether an entry mentions a variable, itself or by one of its parts.
+    fn mentions(&self, entry: usize, variable: usize) -> bool {
+        match self.entries[entry] {
+            Entry::Variable(v) => v == variable,
+            entry => entry.parts().any(|part| self.mentions(part, variable)),
+        }
+    }
+
+    /// The variables that an entry mentions and a node does not track, upward. One that
+    /// reads unknown has some.
+    fn missing<'a>(&'a self, entry: usize, node: &'a Node) -> impl Iterator<Item = usize> + 'a {
+        let variables = 0..self.variables.len();
+        variables.filter(move |&v| node.label(v).is_none() && self.mentions(entry, v))
+    }
+
+    /// What row 19 asks of a node, in order: an expanded one's guards, and the target.
+    fn asked(&self, kind: Kind) -> impl Iterator<Item = usize> + '_ {
+        let guards = self.commands.iter().map(|command| command.guard);
+        guards.filter(move |_| kind == Kind::Expanded).chain([self.target])
+    }
+
+    /// Row 19, for an expanded or a target node; the table has what its label reads.
+    fn decide(&self, place: usize, node: &Node, label: &[Reading]) -> Checked<()> {
+        let wanted = Reading::Truth(node.kind == Kind::Target);
+        let unknown = self.asked(node.kind).find(|&entry| label[entry] == Reading::Unknown);
+        match unknown {
+            None if label[self.target] == wanted => Ok(()),
+            None => Err(Refusal { number: 19, place, second: NO_VARIABLE }),
+            Some(entry) => {
+                let second = self.missing(entry, node).next().unwrap_or(NO_VARIABLE);
+                Err(Refusal { number: 19, place, second })
+            }
+        }
+    }
 }
 
 // -------------------------------------------------------------------- graphs
@@ -462,6 +508,27 @@ impl Node {
     /// Whether the label contains a state.
     fn contains(&self, state: &[i16]) -> bool {
         state.iter().enumerate().all(|(v, &value)| self.label(v).is_none_or(|label| label == value))
+    }
+
+    /// The variables, upward, whose concrete value is not what the assigned entry reads.
+    fn concrete_faults<'a>(
+        &'a self,
+        assigned: &'a [usize],
+        concrete: &'a [Reading],
+    ) -> impl Iterator<Item = usize> + 'a {
+        let wrong = |v: &usize| concrete[assigned[*v]] != Reading::Number(self.concrete[*v].into());
+        (0..assigned.len()).filter(wrong)
+    }
+
+    /// The variables that it tracks, upward, whose label value is not what the assigned
+    /// entry reads.
+    fn label_faults<'a>(
+        &'a self,
+        assigned: &'a [usize],
+        label: &'a [Reading],
+    ) -> impl Iterator<Item = usize> + 'a {
+        let reads = |v: usize, value: i16| label[assigned[v]] == Reading::Number(value.into());
+        (0..assigned.len()).filter(move |&v| self.label(v).is_some_and(|value| !reads(v, value)))
     }
 }
 
@@ -575,6 +642,16 @@ impl Graph {
         self.successors[edge.successors.clone()].iter().copied().map(usize::from)
     }
 
+    /// Each branch of an edge: the assigned entries, one per variable, and the successor.
+    fn branches<'a>(
+        &'a self,
+        model: &'a Model,
+        edge: &'a Edge,
+    ) -> impl Iterator<Item = (&'a [usize], &'a Node)> + 'a {
+        let assigned = model.commands[edge.command].assigned.iter();
+        assigned.zip(self.successors(edge)).map(|(entries, place)| (&entries[..], &self.nodes[place]))
+    }
+
     /// The sum, over an edge's branches, of weight × the successor's units.
     fn weighed(&self, model: &Model, edge: &Edge, units: impl Fn(usize) -> u32) -> u64 {
         let weights = &model.commands[edge.command].weights;
@@ -587,81 +664,66 @@ impl Graph {
 
     /// Rows 18 to 25, finished for one node before the next.
     fn check(&self, model: &Model) -> Checked<()> {
-        let mut tables = (Vec::new(), Vec::new());
-        for (place, node) in self.nodes.iter().enumerate() {
-            if let Some(number) = self.broken(model, node, &mut tables) {
-                return refuse(number, place);
-            }
-        }
-        Ok(())
+        let mut tables = [Vec::new(), Vec::new()];
+        (0..self.nodes.len()).try_for_each(|place| self.check_node(model, place, &mut tables))
     }
 
-    /// The first of the rules 18 to 25 that a node breaks.
-    fn broken(&self, model: &Model, node: &Node, tables: &mut (Vec<Reading>, Vec<Reading>)) -> Option<u32> {
-        if !node.contains(&node.concrete) {
-            return Some(18);
-        }
+    fn check_node(&self, model: &Model, place: usize, tables: &mut [Vec<Reading>; 2]) -> Checked<()> {
+        let node = &self.nodes[place];
+        ensure(node.contains(&node.concrete), 18, place)?;
         match node.kind {
-            Kind::Waiting => (node.value != CERTAIN).then_some(25),
+            Kind::Waiting => ensure(node.value == CERTAIN, 25, place),
             Kind::Target => {
-                model.read(|v| node.label(v), &mut tables.0);
-                if tables.0[model.target] != Reading::Truth(true) {
-                    return Some(19);
-                }
-                (node.value != CERTAIN).then_some(25)
-            }
-            Kind::Covered => {
-                let Some(cover) = self.nodes.get(node.cover).filter(|cover| cover.kind != Kind::Covered)
-                else {
-                    return Some(22);
-                };
-                if !cover.contains(&node.concrete) {
-                    return Some(23);
-                }
-                let kept = |v| cover.label(v).is_none() || cover.label(v) == node.label(v);
-                if !(0..model.variables.len()).all(kept) {
-                    return Some(24);
-                }
-                (node.value < cover.value).then_some(25)
-            }
-            Kind::Expanded => {
-                let (label, concrete) = tables;
+                let [label, _] = tables;
                 model.read(|v| node.label(v), label);
-                let guards = || model.commands.iter().map(|command| label[command.guard]);
-                if guards().any(|guard| guard == Reading::Unknown)
-                    || label[model.target] != Reading::Truth(false)
-                {
-                    return Some(19);
-                }
-                let enabled = guards()
-                    .enumerate()
-                    .filter(|(_, guard)| *guard == Reading::Truth(true))
-                    .map(|(command, _)| command);
-                let edges = self.edges(node);
-                if !edges.iter().map(|edge| edge.command).eq(enabled) {
-                    return Some(20);
-                }
-                model.read(|v| Some(node.concrete[v]), concrete);
-                for edge in edges {
-                    let assigned = &model.commands[edge.command].assigned;
-                    for (entries, successor) in assigned.iter().zip(self.successors(edge)) {
-                        let successor = &self.nodes[successor];
-                        let follows = |(v, &entry): (usize, &usize)| {
-                            concrete[entry] == Reading::Number(successor.concrete[v].into())
-                                && successor
-                                    .label(v)
-                                    .is_none_or(|value| label[entry] == Reading::Number(value.into()))
-                        };
-                        if !entries.iter().enumerate().all(follows) {
-                            return Some(21);
-                        }
-                    }
-                }
-                let held = u64::from(model.total) * u64::from(node.value);
-                let kept = |edge| held >= self.weighed(model, edge, |successor| self.nodes[successor].value);
-                (!edges.iter().all(kept)).then_some(25)
+                model.decide(place, node, label)?;
+                ensure(node.value == CERTAIN, 25, place)
             }
+            Kind::Covered => self.check_covered(model, place, node),
+            Kind::Expanded => self.check_expanded(model, place, node, tables),
         }
+    }
+
+    fn check_covered(&self, model: &Model, place: usize, node: &Node) -> Checked<()> {
+        let cover = self.nodes.get(node.cover).filter(|cover| cover.kind != Kind::Covered);
+        let Some(cover) = cover else {
+            return refuse(22, place);
+        };
+        ensure(cover.contains(&node.concrete), 23, place)?;
+        let kept = |v| cover.label(v).is_none() || cover.label(v) == node.label(v);
+        ensure((0..model.variables.len()).all(kept), 24, place)?;
+        ensure(node.value >= cover.value, 25, place)
+    }
+
+    fn check_expanded(
+        &self,
+        model: &Model,
+        place: usize,
+        node: &Node,
+        tables: &mut [Vec<Reading>; 2],
+    ) -> Checked<()> {
+        let [label, concrete] = tables;
+        model.read(|v| node.label(v), label);
+        model.decide(place, node, label)?;
+
+        let commands = model.commands.iter().enumerate();
+        let enabled = commands.filter(|(_, command)| label[command.guard] == Reading::Truth(true));
+        let edges = self.edges(node);
+        let right = edges.iter().map(|edge| edge.command).eq(enabled.map(|(command, _)| command));
+        ensure(right, 20, place)?;
+
+        model.read(|v| Some(node.concrete[v]), concrete);
+        let branches = edges.iter().flat_map(|edge| self.branches(model, edge));
+        let mut faults = branches.flat_map(|(entries, successor)| {
+            let by_concrete = successor.concrete_faults(entries, concrete).map(|_| NO_VARIABLE);
+            by_concrete.chain(successor.label_faults(entries, label))
+        });
+        if let Some(second) = faults.next() {
+            return Err(Refusal { number: 21, place, second });
+        }
+        let held = u64::from(model.total) * u64::from(node.value);
+        let kept = |edge| held >= self.weighed(model, edge, |successor| self.nodes[successor].value);
+        ensure(edges.iter().all(kept), 25, place)
     }
 
     fn count(&self, kind: Kind) -> usize {
