@@ -225,7 +225,7 @@ fn limits_of_the_crate() {
 #[test]
 fn inputs_at_the_limits() {
     for limit in limits() {
-        let numbers = limit.answers.map(|answer| answer.map_or(0, |(number, _)| number));
+        let numbers = limit.answers.map(|answer| answer.map_or(0, |(number, ..)| number));
         assert_eq!(compare(&limit.input), numbers, "{}", limit.input.name);
     }
 }

@@ -798,7 +798,9 @@ fn limits_are_kept() {
             step(&model, &state, command, branch, &mut row).err(),
             indexed(&model, &graph, &batch, index_rows).answer.err(),
         ];
-        let expected = limit.answers.map(|answer| answer.map(|(number, place)| refused(number, place)));
+        let expected = limit
+            .answers
+            .map(|answer| answer.map(|(number, place, second)| refused_for(number, place, second)));
         assert_eq!(answers, expected, "{name}");
     }
 }
@@ -820,6 +822,139 @@ fn large_inputs_are_accepted() {
         let last = figures(&large.model, &large.graph, MOST_NODES, 20).unwrap();
         let next = figures(&large.model, &large.graph, MOST_NODES, 21).unwrap();
         assert_eq!(last != next, changing);
+    }
+}
+
+// ------------------------------------------------------------ second places
+
+/// A model of three variables, all 0 at first, and so many commands, each with two
+/// branches that change nothing. No state is a target.
+fn unchanging(commands: usize) -> ModelData {
+    let mut model = generate::limits::plain(3, 9, commands, 2);
+    for v in 0..3 {
+        model.entries[3 + v] = [1, v as u16, 0, 0];
+        model.entries[6 + v] = [8, 3 + v as u16, 0, 0];
+    }
+    for branch in &mut model.branches {
+        branch[1..].copy_from_slice(&[3, 4, 5]);
+    }
+    model
+}
+
+/// Of an unchanging model, the entries that say of each variable that it is 0.
+const IS_ZERO: [u16; 3] = [6, 7, 8];
+
+/// What the graph check says of a graph of one node that tracks the set.
+fn alone(model: &ModelData, kind: u16, tracked: u16) -> Option<Refusal> {
+    let node = NodeData::new(kind, CERTAIN, tracked, &[0, 0, 0]);
+    graph_check(&model.bytes(), &GraphData { nodes: vec![node] }.bytes()).err()
+}
+
+#[test]
+fn unknown_readings_name_the_lowest_variable_that_is_missing() {
+    let [x, y, z] = IS_ZERO;
+    // Entries 9 to 11: a false one and a true one that mention x, and y or z as the
+    // first says.
+    let known = [[12, 2, x, 0], [13, x, 1, 0], [7, 9, 4, 5]];
+    for (truth, tracked, second) in [
+        ([13, y, 9, 0], 0b000, 0),
+        ([13, y, 9, 0], 0b001, 1),
+        ([13, 9, y, 0], 0b000, 0),
+        ([12, 10, z, 0], 0b000, 0),
+        ([12, 10, z, 0], 0b010, 0),
+        ([12, 10, z, 0], 0b011, 2),
+        ([12, z, y, 0], 0b000, 1),
+        ([12, z, y, 0], 0b010, 2),
+        ([11, y, 0, 0], 0b101, 1),
+        ([8, 5, 4, 0], 0b000, 1),
+        ([8, 4, 3, 0], 0b100, 0),
+        ([8, 4, 3, 0], 0b001, 1),
+        ([8, 11, 0, 0], 0b000, 0),
+        ([8, 11, 0, 0], 0b001, 1),
+        ([8, 11, 0, 0], 0b011, 2),
+    ] {
+        let mut model = unchanging(1);
+        model.entries.extend(known);
+        model.entries.push(truth);
+        let expected = Some(refused_for(19, 0, second));
+        model.commands[0][0] = 12;
+        assert_eq!(alone(&model, EXPANDED, tracked), expected, "guard {truth:?} {tracked:b}");
+        model.commands[0][0] = 2;
+        model.target = 12;
+        for kind in [EXPANDED, TARGET] {
+            assert_eq!(alone(&model, kind, tracked), expected, "target {truth:?} {tracked:b} {kind}");
+        }
+    }
+}
+
+#[test]
+fn guards_are_asked_by_command_and_then_the_target() {
+    let [x, y, z] = IS_ZERO;
+    let mut model = unchanging(2);
+    (model.commands[0][0], model.commands[1][0], model.target) = (z, y, x);
+    for (kind, tracked, second) in [
+        (EXPANDED, 0b000, 2),
+        (EXPANDED, 0b001, 2),
+        (EXPANDED, 0b010, 2),
+        (EXPANDED, 0b100, 1),
+        (EXPANDED, 0b101, 1),
+        (EXPANDED, 0b110, 0),
+        (EXPANDED, 0b111, NO_VARIABLE),
+        (TARGET, 0b000, 0),
+        (TARGET, 0b110, 0),
+    ] {
+        assert_eq!(alone(&model, kind, tracked), Some(refused_for(19, 0, second)), "{kind} {tracked:b}");
+    }
+    // A target node is not asked for its guards.
+    assert_eq!(alone(&model, TARGET, 0b001), None);
+    model.target = 2;
+    assert_eq!(alone(&model, TARGET, 0b000), Some(refused_for(19, 0, NO_VARIABLE)));
+}
+
+/// Nodes with a variable of each.
+type Places = &'static [(usize, usize)];
+
+/// What the graph check says of a graph whose root, which tracks x, has two edges of two
+/// branches, to nodes 1 to 4. These wait, and track nothing but what is given, with the
+/// right label value 0 or a wrong one; and some concrete values are wrong.
+fn led_astray(right: Places, wrong: Places, concrete: Places) -> Option<Refusal> {
+    let model = unchanging(2);
+    let mut nodes = vec![NodeData::new(WAITING, CERTAIN, 0, &[0, 0, 0]); 5];
+    nodes[0] = NodeData::new(EXPANDED, CERTAIN, 1, &[0, 0, 0]);
+    nodes[0].push_edge(0, vec![1, 2]);
+    nodes[0].push_edge(1, vec![3, 4]);
+    right.iter().chain(wrong).for_each(|&(node, v)| track(&mut nodes[node], v));
+    wrong.iter().for_each(|&(node, v)| nodes[node].label[v] = 1);
+    concrete.iter().for_each(|&(node, v)| nodes[node].concrete[v] = 1);
+    graph_check(&model.bytes(), &GraphData { nodes }.bytes()).err()
+}
+
+#[test]
+fn successors_are_followed_by_edge_and_branch() {
+    let (x, y, z) = (0, 1, 2);
+    assert_eq!(led_astray(&[(1, 0), (4, 0)], &[], &[]), None);
+    let cases: [(Places, Places, Places, usize); 14] = [
+        // One branch: the concrete label of all variables, then the tracked ones upward.
+        (&[(1, 1)], &[], &[], y),
+        (&[(1, 2), (1, 1)], &[], &[], y),
+        (&[(1, 0), (1, 2)], &[], &[], z),
+        (&[], &[(1, 0)], &[], x),
+        (&[(1, 1)], &[(1, 0)], &[], x),
+        (&[], &[], &[(1, 2)], NO_VARIABLE),
+        (&[(1, 1)], &[], &[(1, 2)], NO_VARIABLE),
+        // Each of the other branches.
+        (&[(2, 2)], &[], &[], z),
+        (&[(3, 1)], &[], &[], y),
+        (&[], &[], &[(4, 0)], NO_VARIABLE),
+        // Two of them: the first, whatever is wrong with the other.
+        (&[(1, 2), (2, 1)], &[], &[], z),
+        (&[(2, 2)], &[(3, 0)], &[], z),
+        (&[(3, 1)], &[], &[(4, 0)], y),
+        (&[(3, 1)], &[], &[(2, 0)], NO_VARIABLE),
+    ];
+    for (right, wrong, concrete, second) in cases {
+        let expected = Some(refused_for(21, 0, second));
+        assert_eq!(led_astray(right, wrong, concrete), expected, "{right:?} {wrong:?} {concrete:?}");
     }
 }
 

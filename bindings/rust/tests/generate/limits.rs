@@ -5,8 +5,8 @@ use super::states::{self, one_hash, one_slot, Crowd};
 use super::{pedal, Input};
 
 /// What the five calls answer, in this order: model check, graph check, figure,
-/// step, index. Nothing is acceptance; a refusal is number and place.
-pub type Answers = [Option<(u32, usize)>; 5];
+/// step, index. Nothing is acceptance; a refusal is its number and both places.
+pub type Answers = [Option<(u32, usize, usize)>; 5];
 
 pub struct Limit {
     pub input: Input,
@@ -16,24 +16,28 @@ pub struct Limit {
 const ACCEPTED: Answers = [None; 5];
 
 fn model_refused(number: u32, place: usize) -> Answers {
-    [Some((number, place)); 5]
+    [Some((number, place, 0)); 5]
 }
 
 fn graph_refused(number: u32, place: usize) -> Answers {
-    let graph = Some((number, place));
+    graph_refused_for(number, place, 0)
+}
+
+fn graph_refused_for(number: u32, place: usize, second: usize) -> Answers {
+    let graph = Some((number, place, second));
     [None, graph, graph, None, graph]
 }
 
 fn figure_refused(number: u32, place: usize) -> Answers {
-    [None, None, Some((number, place)), None, None]
+    [None, None, Some((number, place, 0)), None, None]
 }
 
 fn step_refused(number: u32, place: usize) -> Answers {
-    [None, None, None, Some((number, place)), None]
+    [None, None, None, Some((number, place, 0)), None]
 }
 
 fn index_refused(place: usize) -> Answers {
-    [None, None, None, None, Some((34, place))]
+    [None, None, None, None, Some((34, place, 0))]
 }
 
 /// A model of so many variables, entries (3 or more), commands, and branches of
@@ -307,9 +311,38 @@ pub fn limits() -> Vec<Limit> {
         limits.push(limit);
     }
 
+    limits.extend(second_limits());
     limits.extend(index_limits());
     limits.extend(crowds());
     limits
+}
+
+/// Second places at the last variable, guard and branch, and at the deepest part.
+fn second_limits() -> Vec<Limit> {
+    let (last, command) = (MOST_VARIABLES - 1, MOST_COMMANDS - 1);
+    let mut model = plain(MOST_VARIABLES, MOST_ENTRIES, MOST_COMMANDS, MOST_BRANCHES);
+    model.entries[3] = [1, last as u16, 0, 0];
+    model.branches[MOST_BRANCH_RECORDS - 1][1 + last] = 3;
+    let mut branch = plain_graph(&model, 2);
+    branch.nodes[0].edges[command].successors[MOST_BRANCHES - 1] = 1;
+    branch.nodes[1].tracked = 1 << last;
+    let name = "variable 15 by branch 15 of edge 63";
+    let by_branch = of_graph(name, &model, &branch, graph_refused_for(21, 0, last));
+
+    // The last guard: a false part that mentions variable 0 at the greatest depth, or
+    // one that is unknown while the last variable is.
+    model.commands[command][0] = 16;
+    model.entries[4] = [8, 3, 3, 0];
+    model.entries[5] = [1, 0, 0, 0];
+    model.entries[6] = [9, 5, 5, 0];
+    (7..15).for_each(|entry| model.entries[entry] = [11, entry as u16 - 1, 0, 0]);
+    model.entries[15] = [12, 2, 14, 0];
+    model.entries[16] = [13, 15, 4, 0];
+    let mut guard = plain_graph(&model, 1);
+    let lowest = of_graph("variable 0 at depth 12", &model, &guard, graph_refused_for(19, 0, 0));
+    guard.nodes[0].tracked = u16::MAX >> 1;
+    let by_guard = of_graph("guard 63 lacks variable 15", &model, &guard, graph_refused_for(19, 0, last));
+    vec![by_branch, lowest, by_guard]
 }
 
 /// The rows of an index of the pedal example, which has 6 nodes and 2 variables.
@@ -355,7 +388,7 @@ fn index_limits() -> Vec<Limit> {
 /// The most nodes: each with a state of its own that is hard to tell from the others,
 /// and all with one state.
 fn crowds() -> Vec<Limit> {
-    let (waiting, last) = (Some((26, 0)), MOST_NODES - 1);
+    let (waiting, last) = (Some((26, 0, 0)), MOST_NODES - 1);
     let mut limits = Vec::new();
     for Crowd { name, pair, absent } in [one_slot(), one_hash()] {
         let mut limit = of_graph(name, &pair.model, &pair.graph, [None, None, waiting, None, None]);
@@ -367,7 +400,7 @@ fn crowds() -> Vec<Limit> {
     let twins = states::of_states(&vec![(WAITING, vec![-BOUND]); MOST_NODES]);
     for (name, listing, index) in [
         ("4,096 nodes of one state", MOST_NODES, None),
-        ("4,096 nodes, listing short by one", last, Some((34, 3))),
+        ("4,096 nodes, listing short by one", last, Some((34, 3, 0))),
     ] {
         let mut limit = of_graph(name, &twins.model, &twins.graph, [None, None, waiting, None, index]);
         limit.input.index_rows[2].0 = listing;
