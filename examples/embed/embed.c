@@ -46,27 +46,27 @@ static int refused(size_t number, size_t place) {
 /* The root's figures, one line for each count of steps. */
 static int print_figures(size_t model_len, size_t graph_len) {
     for (size_t h = 0; h <= 3; h++) {
-        size_t place, part[2];
+        size_t place[2], part[2];
         size_t number = laguipy_figure(model, model_len, graph, graph_len, h, first, LAGUIPY_MOST_NODES, second,
-                                       LAGUIPY_MOST_NODES, &place, part);
+                                       LAGUIPY_MOST_NODES, place, part);
         if (number != 0)
-            return refused(number, place);
+            return refused(number, place[0]);
         printf("within %zu %u\n", h, (unsigned)(part[0] == 0 ? first : second)[0]);
     }
     return ACCEPTED;
 }
 
 static int print_report(const char *model_name, const char *graph_name) {
-    size_t model_len, graph_len, place, values[LAGUIPY_VALUES];
+    size_t model_len, graph_len, place[2], values[LAGUIPY_VALUES];
     int right = read_file(model_name, model, sizeof model, &model_len);
     right = read_file(graph_name, graph, sizeof graph, &graph_len) && right;
     if (!right) {
         printf("no file\n");
         return REFUSED;
     }
-    size_t number = laguipy_graph_check(model, model_len, graph, graph_len, &place, values);
+    size_t number = laguipy_graph_check(model, model_len, graph, graph_len, place, values);
     if (number != 0)
-        return refused(number, place);
+        return refused(number, place[0]);
     size_t nodes =
         values[LAGUIPY_WAITING] + values[LAGUIPY_EXPANDED] + values[LAGUIPY_COVERED] + values[LAGUIPY_TARGET];
     printf("accepted %zu nodes %zu expanded %zu covered %zu target %zu waiting\n", nodes, values[LAGUIPY_EXPANDED],
