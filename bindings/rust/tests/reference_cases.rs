@@ -110,12 +110,7 @@ fn pedal_as_printed() {
 /// A change to the pedal example, and what the graph check then says.
 type Case = (&'static str, fn(&mut ModelData, &mut GraphData), Option<Refusal>);
 
-fn track(node: &mut NodeData, variable: usize) {
-    node.tracked |= 1 << variable;
-    node.label[variable] = node.concrete[variable];
-}
-
-fn untrack(node: &mut NodeData) {
+fn track_nothing(node: &mut NodeData) {
     node.tracked = 0;
     node.label.fill(0);
 }
@@ -136,7 +131,7 @@ fn pedal_listed_cases() {
         ("node 3 covered by 4", |_, g| g.nodes[3].cover = 4, Some(refused(22, 3))),
         ("node 3 covered by itself", |_, g| g.nodes[3].cover = 3, Some(refused(22, 3))),
         ("node 5 waiting", |_, g| g.nodes[5].kind = WAITING, None),
-        ("node 0 tracks nothing", |_, g| untrack(&mut g.nodes[0]), Some(refused_for(19, 0, 0))),
+        ("node 0 tracks nothing", |_, g| track_nothing(&mut g.nodes[0]), Some(refused_for(19, 0, 0))),
         (
             "node 0 without its second edge",
             |_, g| {
@@ -145,7 +140,7 @@ fn pedal_listed_cases() {
             },
             Some(refused(20, 0)),
         ),
-        ("node 3 tracks d = 1 too", |_, g| track(&mut g.nodes[3], 1), Some(refused_for(21, 0, 1))),
+        ("node 3 tracks d = 1 too", |_, g| g.nodes[3].track(1), Some(refused_for(21, 0, 1))),
         ("node 2's label says a = 0", |_, g| g.nodes[2].label[0] = 0, Some(refused_for(21, 0, 0))),
     ]);
 
@@ -481,10 +476,10 @@ fn rows_of_the_graph_by_field() {
             Some(refused(18, 6)),
         ),
         // Row 19.
-        ("guard unknown", |_, g| untrack(&mut g.nodes[2]), Some(refused_for(19, 2, 0))),
+        ("guard unknown", |_, g| track_nothing(&mut g.nodes[2]), Some(refused_for(19, 2, 0))),
         ("target expanded", |_, g| g.nodes[5].kind = EXPANDED, Some(refused_for(19, 5, NO_VARIABLE))),
         ("dead end a target", |_, g| g.nodes[1].kind = TARGET, Some(refused_for(19, 1, NO_VARIABLE))),
-        ("target unknown", |_, g| untrack(&mut g.nodes[5]), Some(refused_for(19, 5, 0))),
+        ("target unknown", |_, g| track_nothing(&mut g.nodes[5]), Some(refused_for(19, 5, 0))),
         ("d for a", |_, g| g.nodes[0].tracked = 2, Some(refused_for(19, 0, 0))),
         // Row 20.
         ("edges the other way round", |_, g| g.nodes[0].edges.swap(0, 1), Some(refused(20, 0))),
@@ -508,8 +503,8 @@ fn rows_of_the_graph_by_field() {
         ("cover covered", |_, g| g.nodes[4].cover = 3, Some(refused(22, 4))),
         ("outside the cover", |_, g| g.nodes[3].cover = 1, Some(refused(23, 3))),
         ("outside a target", |_, g| g.nodes[4].cover = 5, Some(refused(23, 4))),
-        ("cover tracks more", |_, g| untrack(&mut g.nodes[3]), Some(refused(24, 3))),
-        ("cover tracks d", |_, g| track(&mut g.nodes[0], 1), Some(refused(23, 3))),
+        ("cover tracks more", |_, g| track_nothing(&mut g.nodes[3]), Some(refused(24, 3))),
+        ("cover tracks d", |_, g| g.nodes[0].track(1), Some(refused(23, 3))),
         // Row 25.
         ("value of node 2", |_, g| g.nodes[2].value = 99_999_999, Some(refused(25, 2))),
         ("value under the cover's", |_, g| g.nodes[3].value = 9_999_999, Some(refused(25, 3))),
@@ -560,7 +555,7 @@ fn rows_of_the_graph_by_field() {
             "25 of node 0 before 19 of node 1",
             |_, g| {
                 g.nodes[0].value = 0;
-                untrack(&mut g.nodes[1]);
+                track_nothing(&mut g.nodes[1]);
             },
             Some(refused(25, 0)),
         ),
@@ -923,7 +918,7 @@ fn led_astray(right: Places, wrong: Places, concrete: Places) -> Option<Refusal>
     nodes[0] = NodeData::new(EXPANDED, CERTAIN, 1, &[0, 0, 0]);
     nodes[0].push_edge(0, vec![1, 2]);
     nodes[0].push_edge(1, vec![3, 4]);
-    right.iter().chain(wrong).for_each(|&(node, v)| track(&mut nodes[node], v));
+    right.iter().chain(wrong).for_each(|&(node, v)| nodes[node].track(v));
     wrong.iter().for_each(|&(node, v)| nodes[node].label[v] = 1);
     concrete.iter().for_each(|&(node, v)| nodes[node].concrete[v] = 1);
     graph_check(&model.bytes(), &GraphData { nodes }.bytes()).err()

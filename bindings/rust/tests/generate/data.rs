@@ -199,6 +199,17 @@ impl NodeData {
         in_set(self.tracked, variable)
     }
 
+    /// Tracks a variable, the label agreeing with the state.
+    pub fn track(&mut self, variable: usize) {
+        self.tracked |= 1 << variable;
+        self.label[variable] = self.concrete[variable];
+    }
+
+    pub fn untrack(&mut self, variable: usize) {
+        self.tracked &= !(1 << variable);
+        self.label[variable] = 0;
+    }
+
     /// Whether the label contains the state.
     pub fn contains(&self, state: &[i16]) -> bool {
         (0..state.len()).all(|v| !self.tracks(v) || self.label[v] == state[v])

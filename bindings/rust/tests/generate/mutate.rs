@@ -559,15 +559,17 @@ fn break_model(random: &mut Random, model: &mut ModelData, number: u32) -> bool 
     }
 }
 
+/// The place of a node, one of those allowed.
+pub fn choose(graph: &GraphData, random: &mut Random, allowed: &dyn Fn(&NodeData) -> bool) -> Option<usize> {
+    let places: Vec<usize> = (0..graph.nodes.len()).filter(|&n| allowed(&graph.nodes[n])).collect();
+    (!places.is_empty()).then(|| random.pick(&places))
+}
+
 /// Breaks row 15 to 25, if the graph allows it.
 fn break_graph(random: &mut Random, pair: &mut Pair, number: u32) -> bool {
     let Pair { model, graph } = pair;
     let count = graph.nodes.len();
     let variables = model.variables.len();
-    let choose = |graph: &GraphData, random: &mut Random, allowed: &dyn Fn(&NodeData) -> bool| {
-        let places: Vec<usize> = (0..count).filter(|&n| allowed(&graph.nodes[n])).collect();
-        (!places.is_empty()).then(|| random.pick(&places))
-    };
     let v = random.below(variables);
     match number {
         15 => {
@@ -654,9 +656,7 @@ fn break_graph(random: &mut Random, pair: &mut Pair, number: u32) -> bool {
                     if tracked.is_empty() {
                         return false;
                     }
-                    let v = random.pick(&tracked);
-                    node.tracked ^= 1 << v;
-                    node.label[v] = 0;
+                    node.untrack(random.pick(&tracked));
                 }
             }
             true
@@ -703,9 +703,7 @@ fn break_graph(random: &mut Random, pair: &mut Pair, number: u32) -> bool {
             // The successor tracks a variable that does not read known.
             let entry = usize::from(model.branches_of(usize::from(node.edges[edge].command))[branch][1 + v]);
             let unknown = model.read(&node.concrete, node.tracked)[entry].is_none();
-            let successor = &mut graph.nodes[successor];
-            successor.tracked |= 1 << v;
-            successor.label[v] = successor.concrete[v];
+            graph.nodes[successor].track(v);
             unknown
         }
         22 => {
@@ -739,8 +737,7 @@ fn break_graph(random: &mut Random, pair: &mut Pair, number: u32) -> bool {
             if shared & 1 << v == 0 {
                 return false;
             }
-            node.tracked ^= 1 << v;
-            node.label[v] = 0;
+            node.untrack(v);
             true
         }
         _ => {

@@ -27,33 +27,56 @@ impl<'a> Undecided<'a> {
         self.label[entry] == Reading::Unknown
     }
 
-    /// Whether the first that is unknown is a guard; the target.
+    /// Whether the first that is unknown is a guard; or the target.
     fn by_guard(&self) -> bool {
-        self.unknown.first().is_some_and(|&entry| entry != self.model.target)
+        self.is(Kind::Expanded) && self.guards_unknown() > 0
     }
 
     fn by_target(&self) -> bool {
-        self.unknown == [self.model.target]
-    }
-
-    fn lowest(&self, entry: usize) -> Option<usize> {
-        self.model.missing(entry, self.node).next()
-    }
-
-    /// Of the first that is unknown, all variables that are missing.
-    fn missing(&self) -> Vec<usize> {
-        self.unknown.first().map_or(Vec::new(), |&entry| self.model.missing(entry, self.node).collect())
+        !self.unknown.is_empty() && !self.by_guard()
     }
 
     fn is(&self, kind: Kind) -> bool {
         self.node.kind == kind
     }
 
-    fn guard_unknown(&self) -> bool {
-        self.model.commands.iter().any(|command| self.reads_unknown(command.guard))
+    fn guards_unknown(&self) -> usize {
+        self.model.commands.iter().filter(|command| self.reads_unknown(command.guard)).count()
     }
 
-    /// Whether an unknown entry mentions the variable by parts that are all unknown.
+    fn first_guard_known(&self) -> bool {
+        !self.reads_unknown(self.model.commands[0].guard)
+    }
+
+    fn wrong_target(&self) -> bool {
+        self.label[self.model.target] == Reading::Truth(self.is(Kind::Expanded))
+    }
+
+    /// Whether something is so of the first that is unknown.
+    fn first(&self, holds: impl Fn(usize) -> bool) -> bool {
+        self.unknown.first().is_some_and(|&entry| holds(entry))
+    }
+
+    fn missing(&self, entry: usize) -> impl Iterator<Item = usize> + '_ {
+        self.model.missing(entry, self.node)
+    }
+
+    fn lowest(&self, entry: usize) -> Option<usize> {
+        self.missing(entry).next()
+    }
+
+    /// Whether a lower variable than that is mentioned, but tracked.
+    fn lower_tracked(&self, entry: usize) -> bool {
+        let lower = 0..self.lowest(entry).unwrap_or(0);
+        lower.into_iter().any(|v| self.model.mentions(entry, v))
+    }
+
+    /// Whether what is asked later is unknown for a lower variable.
+    fn lower_later(&self, entry: usize) -> bool {
+        self.unknown.iter().any(|&other| self.lowest(other) < self.lowest(entry))
+    }
+
+    /// Whether an entry mentions the variable by parts that are all unknown.
     fn lacks(&self, entry: usize, variable: usize) -> bool {
         let entries = &self.model.entries;
         let itself = matches!(entries[entry], Entry::Variable(v) if v == variable);
@@ -61,75 +84,49 @@ impl<'a> Undecided<'a> {
         self.reads_unknown(entry) && (itself || by_part())
     }
 
-    /// Whether the variable that is given is missing in known parts alone.
-    fn in_known_parts(&self) -> bool {
-        let first = self.unknown.first();
-        first.is_some_and(|&entry| self.lowest(entry).is_some_and(|lowest| !self.lacks(entry, lowest)))
+    /// Whether known parts alone mention the lowest variable that is missing.
+    fn in_known_parts(&self, entry: usize) -> bool {
+        self.lowest(entry).is_some_and(|lowest| !self.lacks(entry, lowest))
     }
 
-    /// The variable that is met first, going from an unknown entry to its first unknown
-    /// part.
+    /// The variable that is met first, going from unknown entries to their first unknown
+    /// parts.
     fn met_first(&self, entry: usize) -> Option<usize> {
         match self.model.entries[entry] {
             Entry::Variable(v) => Some(v),
-            entry => {
-                entry.parts().find(|&part| self.reads_unknown(part)).and_then(|part| self.met_first(part))
-            }
+            entry => self.met_first(entry.parts().find(|&part| self.reads_unknown(part))?),
         }
-    }
-
-    fn higher_met_first(&self) -> bool {
-        self.unknown.first().is_some_and(|&entry| self.met_first(entry) > self.lowest(entry))
-    }
-
-    /// Whether what is asked after the first unknown is unknown for a lower variable.
-    fn lower_after(&self) -> bool {
-        let lowest = |&entry: &usize| self.lowest(entry);
-        self.unknown
-            .split_first()
-            .is_some_and(|(first, rest)| rest.iter().map(lowest).any(|v| v < lowest(first)))
-    }
-
-    fn first_guard_known(&self) -> bool {
-        !self.reads_unknown(self.model.commands[0].guard)
-    }
-
-    fn lower_tracked(&self) -> bool {
-        let lowest = self.missing().first().copied().unwrap_or(0);
-        let mentions = |v: usize| self.unknown.first().is_some_and(|&entry| self.model.mentions(entry, v));
-        (0..lowest).any(|v| self.node.label(v).is_some() && mentions(v))
-    }
-
-    fn wrong_target(&self) -> bool {
-        self.label[self.model.target] == Reading::Truth(self.is(Kind::Expanded))
     }
 }
 
 fn of_19<'a>() -> Vec<Situation<Undecided<'a>>> {
     vec![
-        ("19: the first guard unknown", |node| node.by_guard() && !node.first_guard_known()),
-        ("19: a later guard unknown", |node| node.by_guard() && node.first_guard_known()),
-        ("19: more than one guard or target unknown", |node| node.unknown.len() > 1),
-        ("19: what is unknown after the first lacks a lower variable", Undecided::lower_after),
-        ("19: a guard unknown and the target wrong", |node| node.by_guard() && node.wrong_target()),
-        ("19: only the target of an expanded node unknown", |node| {
-            node.by_target() && node.is(Kind::Expanded)
+        ("19: the first guard unknown", |n| n.by_guard() && !n.first_guard_known()),
+        ("19: a later guard unknown", |n| n.by_guard() && n.first_guard_known()),
+        ("19: more than one guard unknown", |n| n.by_guard() && n.guards_unknown() > 1),
+        ("19: a guard and the target unknown", |n| n.by_guard() && n.reads_unknown(n.model.target)),
+        ("19: a guard unknown and the target wrong", |n| n.by_guard() && n.wrong_target()),
+        ("19: what is asked later lacks a lower variable", |n| n.first(|entry| n.lower_later(entry))),
+        ("19: the target of an expanded node unknown", |n| n.by_target() && n.is(Kind::Expanded)),
+        ("19: the target of a target node unknown", |n| n.by_target() && n.is(Kind::Target)),
+        ("19: the target and a guard of a target node unknown", |n| {
+            n.by_target() && n.is(Kind::Target) && n.guards_unknown() > 0
         }),
-        ("19: the target of a target node unknown", |node| node.by_target() && node.is(Kind::Target)),
-        ("19: the target and a guard of a target node unknown", |node| {
-            node.by_target() && node.is(Kind::Target) && node.guard_unknown()
+        ("19: an expanded node that is a target", |n| n.unknown.is_empty() && n.is(Kind::Expanded)),
+        ("19: a target node that is none", |n| n.unknown.is_empty() && n.is(Kind::Target)),
+        ("19: a target node that is none, with a guard unknown", |n| {
+            n.unknown.is_empty() && n.is(Kind::Target) && n.guards_unknown() > 0
         }),
-        ("19: an expanded node that is a target", |node| node.unknown.is_empty() && node.is(Kind::Expanded)),
-        ("19: a target node that is none", |node| node.unknown.is_empty() && node.is(Kind::Target)),
-        ("19: a target node that is none, with a guard unknown", |node| {
-            node.unknown.is_empty() && node.is(Kind::Target) && node.guard_unknown()
+        ("19: more than one variable missing", |n| n.first(|entry| n.missing(entry).count() > 1)),
+        ("19: a variable other than 0 missing", |n| n.first(|entry| n.lowest(entry) > Some(0))),
+        ("19: a lower variable tracked", |n| n.first(|entry| n.lower_tracked(entry))),
+        ("19: a higher variable met first", |n| n.first(|entry| n.met_first(entry) > n.lowest(entry))),
+        ("19: a guard's lowest in known parts alone", |n| {
+            n.by_guard() && n.first(|entry| n.in_known_parts(entry))
         }),
-        ("19: more than one variable missing", |node| node.missing().len() > 1),
-        ("19: a variable other than 0 missing", |node| node.missing().first() > Some(&0)),
-        ("19: a lower variable mentioned and tracked", Undecided::lower_tracked),
-        ("19: a guard's lowest in known parts alone", |node| node.by_guard() && node.in_known_parts()),
-        ("19: a target's lowest in known parts alone", |node| node.by_target() && node.in_known_parts()),
-        ("19: a higher variable met first", Undecided::higher_met_first),
+        ("19: a target's lowest in known parts alone", |n| {
+            n.by_target() && n.first(|entry| n.in_known_parts(entry))
+        }),
     ]
 }
 
@@ -192,7 +189,7 @@ impl Astray {
 fn of_21() -> Vec<Situation<Astray>> {
     vec![
         ("21: concrete label", |node| node.first().by_concrete()),
-        ("21: concrete label of untracked variables alone", |node| {
+        ("21: concrete label, and every label value right", |node| {
             node.first().by_concrete() && node.first().label.is_empty()
         }),
         ("21: concrete label, and a lower variable's label", |node| {
