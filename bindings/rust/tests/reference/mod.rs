@@ -189,7 +189,7 @@ impl Entry {
 
     /// A leaf has depth 1, any other entry one more than its deepest part.
     fn depth(&self, lower: &[u32]) -> u32 {
-        1 + self.parts().map(|part| lower[part]).max().unwrap_or(0)
+        1 + self.parts().fold(0, |depth, part| depth.max(lower[part]))
     }
 
     /// The range of a number, from those of its parts; a truth has none.
@@ -509,26 +509,41 @@ impl Node {
     fn contains(&self, state: &[i16]) -> bool {
         state.iter().enumerate().all(|(v, &value)| self.label(v).is_none_or(|label| label == value))
     }
+}
 
-    /// The variables, upward, whose concrete value is not what the assigned entry reads.
-    fn concrete_faults<'a>(
-        &'a self,
-        assigned: &'a [usize],
-        concrete: &'a [Reading],
-    ) -> impl Iterator<Item = usize> + 'a {
-        let wrong = |v: &usize| concrete[assigned[*v]] != Reading::Number(self.concrete[*v].into());
-        (0..assigned.len()).filter(wrong)
+/// A branch of an edge: the assigned entries, one per variable, and the successor.
+struct Branch<'a> {
+    assigned: &'a [usize],
+    successor: &'a Node,
+}
+
+impl Branch<'_> {
+    /// Whether the entry assigned to a variable reads as its concrete value; as its label
+    /// value, if it is tracked.
+    fn concrete_follows(&self, (v, entry): (usize, usize), concrete: &[Reading]) -> bool {
+        concrete[entry] == Reading::Number(self.successor.concrete[v].into())
     }
 
-    /// The variables that it tracks, upward, whose label value is not what the assigned
-    /// entry reads.
-    fn label_faults<'a>(
-        &'a self,
-        assigned: &'a [usize],
-        label: &'a [Reading],
-    ) -> impl Iterator<Item = usize> + 'a {
-        let reads = |v: usize, value: i16| label[assigned[v]] == Reading::Number(value.into());
-        (0..assigned.len()).filter(move |&v| self.label(v).is_some_and(|value| !reads(v, value)))
+    fn label_follows(&self, (v, entry): (usize, usize), label: &[Reading]) -> bool {
+        self.successor.label(v).is_none_or(|value| label[entry] == Reading::Number(value.into()))
+    }
+
+    fn entries(&self) -> impl Iterator<Item = (usize, usize)> + '_ {
+        self.assigned.iter().copied().enumerate()
+    }
+
+    /// Whether it leads to the successor, by the readings in the node's two labels.
+    fn follows(&self, concrete: &[Reading], label: &[Reading]) -> bool {
+        self.entries().all(|entry| self.concrete_follows(entry, concrete) && self.label_follows(entry, label))
+    }
+
+    /// What row 21 names where it does not: no variable for the concrete label, which
+    /// comes first, else the lowest one that is tracked and astray.
+    fn second(&self, concrete: &[Reading], label: &[Reading]) -> usize {
+        if !self.entries().all(|entry| self.concrete_follows(entry, concrete)) {
+            return NO_VARIABLE;
+        }
+        self.entries().position(|entry| !self.label_follows(entry, label)).unwrap_or(NO_VARIABLE)
     }
 }
 
@@ -642,14 +657,10 @@ impl Graph {
         self.successors[edge.successors.clone()].iter().copied().map(usize::from)
     }
 
-    /// Each branch of an edge: the assigned entries, one per variable, and the successor.
-    fn branches<'a>(
-        &'a self,
-        model: &'a Model,
-        edge: &'a Edge,
-    ) -> impl Iterator<Item = (&'a [usize], &'a Node)> + 'a {
-        let assigned = model.commands[edge.command].assigned.iter();
-        assigned.zip(self.successors(edge)).map(|(entries, place)| (&entries[..], &self.nodes[place]))
+    fn branches<'a>(&'a self, model: &'a Model, edge: &'a Edge) -> impl Iterator<Item = Branch<'a>> + 'a {
+        let assigned = &model.commands[edge.command].assigned;
+        let pairs = assigned.iter().zip(self.successors(edge));
+        pairs.map(|(assigned, place)| Branch { assigned, successor: &self.nodes[place] })
     }
 
     /// The sum, over an edge's branches, of weight × the successor's units.
@@ -665,11 +676,19 @@ impl Graph {
     /// Rows 18 to 25, finished for one node before the next.
     fn check(&self, model: &Model) -> Checked<()> {
         let mut tables = [Vec::new(), Vec::new()];
-        (0..self.nodes.len()).try_for_each(|place| self.check_node(model, place, &mut tables))
+        for (place, node) in self.nodes.iter().enumerate() {
+            self.check_node(model, place, node, &mut tables)?;
+        }
+        Ok(())
     }
 
-    fn check_node(&self, model: &Model, place: usize, tables: &mut [Vec<Reading>; 2]) -> Checked<()> {
-        let node = &self.nodes[place];
+    fn check_node(
+        &self,
+        model: &Model,
+        place: usize,
+        node: &Node,
+        tables: &mut [Vec<Reading>; 2],
+    ) -> Checked<()> {
         ensure(node.contains(&node.concrete), 18, place)?;
         match node.kind {
             Kind::Waiting => ensure(node.value == CERTAIN, 25, place),
@@ -713,13 +732,11 @@ impl Graph {
         ensure(right, 20, place)?;
 
         model.read(|v| Some(node.concrete[v]), concrete);
-        let branches = edges.iter().flat_map(|edge| self.branches(model, edge));
-        let mut faults = branches.flat_map(|(entries, successor)| {
-            let by_concrete = successor.concrete_faults(entries, concrete).map(|_| NO_VARIABLE);
-            by_concrete.chain(successor.label_faults(entries, label))
-        });
-        if let Some(second) = faults.next() {
-            return Err(Refusal { number: 21, place, second });
+        for edge in edges {
+            let astray = self.branches(model, edge).find(|branch| !branch.follows(concrete, label));
+            if let Some(branch) = astray {
+                return Err(Refusal { number: 21, place, second: branch.second(concrete, label) });
+            }
         }
         let held = u64::from(model.total) * u64::from(node.value);
         let kept = |edge| held >= self.weighed(model, edge, |successor| self.nodes[successor].value);

@@ -155,15 +155,23 @@ impl Astray {
         let [mut label, mut concrete] = [Vec::new(), Vec::new()];
         model.read(|v| node.label(v), &mut label);
         model.read(|v| Some(node.concrete[v]), &mut concrete);
-        let fault = |edge, branch, assigned: &[usize], successor: &Node| {
-            let wrong: Vec<usize> = successor.label_faults(assigned, &label).collect();
-            let unknown = wrong.iter().copied().filter(|&v| label[assigned[v]] == Reading::Unknown).collect();
-            let concrete = successor.concrete_faults(assigned, &concrete).collect();
-            Fault { edge, branch, concrete, label: wrong, unknown }
+        let fault = |edge, at, branch: Branch| {
+            let astray = |holds: &dyn Fn((usize, usize)) -> bool| {
+                branch.entries().filter(|&entry| holds(entry)).map(|(v, _)| v).collect()
+            };
+            let wrong = |entry| !branch.label_follows(entry, &label);
+            let unknown = |(v, entry)| wrong((v, entry)) && label[entry] == Reading::Unknown;
+            Fault {
+                edge,
+                branch: at,
+                concrete: astray(&|entry| !branch.concrete_follows(entry, &concrete)),
+                label: astray(&wrong),
+                unknown: astray(&unknown),
+            }
         };
         let of_edge = |(at, edge)| {
             let branches = graph.branches(model, edge).enumerate();
-            branches.map(move |(branch, (assigned, successor))| fault(at, branch, assigned, successor))
+            branches.map(move |(k, branch)| fault(at, k, branch)).collect::<Vec<_>>()
         };
         let all = graph.edges(node).iter().enumerate().flat_map(of_edge);
         Astray(all.filter(|fault| fault.by_concrete() || !fault.label.is_empty()).collect())
