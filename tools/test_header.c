@@ -1,7 +1,7 @@
 /*
- * Tests include/laguipy.h as C and as C++, on the pedal example: the number and both places of every refusal of every
- * call, the index, with every row at exit, and how much stack each call uses, which it prints. It exits with 0 if all is
- * as the header says.
+ * Tests include/laguipy.h as C and as C++, on the pedal example: number and both places of every refusal of every call,
+ * the index, with every row at exit, and how much stack each call uses, which it prints. It exits with 0 if all is as
+ * the header says.
  *
  *   target/test_header examples/pedal/model.fold examples/pedal/graph.fold
  */
