@@ -1,7 +1,7 @@
 """Laguipy: a checker of simulation graphs of Markov decision processes.
 
 A model and a graph come as folders of bytes (docs/FORMAT.md). Each call believes nothing of them: it raises `Refusal`
-with the number of the first broken rule and its place (docs/REFUSALS.md), or accepts. No strategy reaches a target of
+with the number of the first broken rule and its places (docs/REFUSALS.md), or accepts. No strategy reaches a target of
 the model with a greater chance than the root value of an accepted graph. Values and figures are whole units; CERTAIN
 units are certainty. Every call is proved to answer so, on every input; what is written in Python around it is not.
 
@@ -16,7 +16,17 @@ units are certainty. Every call is proved to answer so, on every input; what is 
 """
 from .errors import InputError
 from .graphs import show_graph, write_graph
-from .limits import CERTAIN, GRAPH_BYTES, MODEL_BYTES, MOST_NODES, MOST_STEPS, MOST_VARIABLES, NO_NODE, SLOTS
+from .limits import (
+    CERTAIN,
+    GRAPH_BYTES,
+    MODEL_BYTES,
+    MOST_NODES,
+    MOST_STEPS,
+    MOST_VARIABLES,
+    NO_NODE,
+    NO_VARIABLE,
+    SLOTS,
+)
 from .models import show_model, write_model
 from .native import (
     Refusal,
@@ -45,6 +55,7 @@ __all__ = [
     "MOST_STEPS",
     "MOST_VARIABLES",
     "NO_NODE",
+    "NO_VARIABLE",
     "Refusal",
     "RunError",
     "SLOTS",

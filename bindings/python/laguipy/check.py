@@ -143,7 +143,19 @@ def pair_warnings(pair):
 # ---- the report as data
 
 
-def report_data(report, notes):
+def refusal_data(pair, line):
+    """A refusal as JSON has it. The report's line has no second place: the library is asked for that."""
+    try:
+        native.graph_check(pair.model_bytes, pair.graph_bytes)
+        told = "accepted"
+    except native.Refusal as refusal:
+        told = str(refusal)
+        if told == line:
+            return {**refusal.data(), "meaning": MEANING[refusal.number]}
+    raise RunError(f"the report is {line!r}, and the library's answer is {told!r}: has a file changed meanwhile?")
+
+
+def report_data(pair, report, notes):
     """A report as JSON has it."""
     words = [line.split() for line in report.decode().splitlines()]
     first = words[0]
@@ -154,8 +166,7 @@ def report_data(report, notes):
         if len(words) > 2:
             data["within"] = [int(line[2]) for line in words[2:]]
     elif first[0] == "refused":
-        number, place = int(first[1]), int(first[2])
-        data = {"answer": "refused", "number": number, "place": place, "meaning": MEANING[number]}
+        data = refusal_data(pair, " ".join(first))
     else:
         data = {"answer": " ".join(first)}
     return {**data, "warnings": notes}

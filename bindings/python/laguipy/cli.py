@@ -55,7 +55,7 @@ def run_check(args):
     again = " ".join([PROGRAM, "check", "--any-size", *map(shlex.quote, args.places)])
     notes = [] if args.quiet else check.remarks(pair, report, again)
     if args.json:
-        emit(json.dumps(check.report_data(report, notes)) + "\n")
+        emit(json.dumps(check.report_data(pair, report, notes)) + "\n")
     else:
         emit(report)
         for note in notes:
@@ -107,8 +107,7 @@ def refused(args, refusal):
     """A refusal in place of what was asked for."""
     meaning = MEANING[refusal.number]
     if args.json:
-        data = {"answer": "refused", "number": refusal.number, "place": refusal.place, "meaning": meaning}
-        emit(json.dumps(data) + "\n")
+        emit(json.dumps({**refusal.data(), "meaning": meaning}) + "\n")
     else:
         emit(f"{refusal}\n")
         # What the graph check accepts, explain has nothing to say of.

@@ -1,10 +1,10 @@
-"""What a broken rule is told as: its number and place, and what is there and what is asked, in words."""
+"""What a broken rule is told as: its number and places, and what is there and what is asked, in words."""
 from typing import NamedTuple, Tuple
 
 
 class Finding(NamedTuple):
     """The first broken rule, as the rules of this package find it. They are written apart from the proved library, for
-    explaining: what counts is the library's number and place."""
+    explaining: what counts is the library's number and places."""
 
     number: int
     place: int
@@ -13,10 +13,12 @@ class Finding(NamedTuple):
     advice: str = ""
     at: str = ""  # where it is, for whoever has no line of text that says it
     sums: str = ""  # how what is asked comes about, where it is a sum
+    second: int = 0  # the second place, of 19 and 21
 
     @property
-    def answer(self):
-        return f"refused {self.number} {self.place}"
+    def outcome(self):
+        """The number and both places."""
+        return self.number, self.place, self.second
 
     @property
     def placed(self):
@@ -46,9 +48,7 @@ ADVICE = {
     16: "write the edges node by node, in the order of the nodes, each with a successor for each branch of its command",
     17: "put the root first, in the model's initial state; explore again where the model changed",
     18: "the label value of a tracked variable is the node's concrete value",
-    19: "track the variables that it mentions, then mend the nodes that lead here (21) and those that it covers (24)",
     20: "one edge for each command whose guard is true, lowest command first",
-    21: "track there what the new value mentions, or stop tracking the variable in the successor",
     22: "cover by expanded, target or waiting nodes alone: take the cover's own cover, or expand one of the two",
     23: "drop the cover, and cover the node by another one or expand it",
     24: "track in this node what its cover tracks, then mend the nodes that lead here (21)",
@@ -57,6 +57,15 @@ ADVICE = {
     27: "ask for at most 10000 steps; the root value is a bound for any number of them",
     28: "lend two rows of at least one element per node",
     34: "lend 8192 slots, whole states, an answer for each of them, and a listing element for each node",
+}
+
+# What a second place says, of the numbers that have one: where it is a variable, and where it is none.
+SECOND = {
+    19: (
+        "variable {} is the lowest that is mentioned and not tracked",
+        "no variable is missing: the target is known, and wrong for the node's kind",
+    ),
+    21: ("the successor's label does not follow in variable {}", "the successor's concrete label does not follow"),
 }
 
 # What each number means in a few words; docs/REFUSALS.md has more.

@@ -20,7 +20,7 @@ from .folder import (
     read_graph,
     read_model,
 )
-from .limits import CERTAIN, GRAPH_BYTES, LEAST_GRAPH_BYTES, MOST_NODES
+from .limits import CERTAIN, GRAPH_BYTES, LEAST_GRAPH_BYTES, MOST_NODES, NO_VARIABLE
 from .names import plain_names
 from .readings import Readings, mentioned
 
@@ -163,6 +163,7 @@ class NodeRules:
         self.first = rules.first
         self.advice = ""  # where a rule has several causes, and one its own remedy
         self.sums = ""  # how what is asked comes about, where it is a sum
+        self.second = 0  # the second place, where a rule has one
         self.in_label = Readings(self.model.entries, lambda v: node.label[v] if node.tracks(v) else None)
         self.in_state = Readings(self.model.entries, lambda v: node.concrete[v])
 
@@ -173,7 +174,7 @@ class NodeRules:
             if why:
                 state = self.names.state(self.node.concrete)
                 text, subject = f"node {self.n} ({state}) {why}", ("node", self.n)
-                return Finding(number, self.n, text, subject, self.advice, sums=self.sums)
+                return Finding(number, self.n, text, subject, self.advice, sums=self.sums, second=self.second)
         return None
 
     def name(self, v):
@@ -182,10 +183,13 @@ class NodeRules:
     def guard(self, c):
         return self.texts.told(self.model.commands[c].guard)
 
-    def unknown_because(self, e):
-        """Which variables an expression mentions that the label does not track."""
-        loose = [self.name(v) for v in sorted(mentioned(self.model.entries, e)) if not self.node.tracks(v)]
-        return f"which does not track {listed(loose)}"
+    def lacking(self, e):
+        """The variables that an expression mentions and the label does not track, lowest first. Where the expression
+        is unknown there is one."""
+        return [v for v in sorted(mentioned(self.model.entries, e)) if not self.node.tracks(v)]
+
+    def named(self, variables):
+        return listed(self.name(v) for v in variables)
 
     def a1(self):
         for v in range(len(self.model.variables)):
@@ -195,23 +199,36 @@ class NodeRules:
         return None
 
     def a2(self):
-        target = self.model.target
-        told = f"the target, {self.texts.told(target)},"
-        read = self.in_label.read(target)
+        if self.node.kind not in (EXPANDED, TARGET):
+            return None
+        for c, command in enumerate(self.model.commands if self.node.kind == EXPANDED else ()):
+            if self.in_label.read(command.guard) is None:
+                return self.unsettled("guard", f" of {self.names.command(c)}", command.guard)
+        read = self.in_label.read(self.model.target)
+        if read is None:
+            return self.unsettled("target", "", self.model.target)
+        return self.wrong_target() if read == (self.node.kind == EXPANDED) else None
+
+    def unsettled(self, what, whose, e):
+        """That a guard or the target, entry e, is unknown."""
+        lacking = self.lacking(e)
+        self.second = lacking[0]
+        also = f", and {self.named(lacking[1:])} where that is not enough" if lacking[1:] else ""
+        track = f"track {self.name(self.second)} in node {self.n}{also}"
+        mend = "then mend the nodes that lead here (21) and those that it covers (24)"
+        self.advice = f"{track}, or write the {what} without {self.named(lacking)}; {mend}"
+        unknown = f"the {what}{whose}, {self.texts.told(e)}, is unknown in its label"
+        return f"is {KINDS[self.node.kind]}, and {unknown}, which does not track {self.named(lacking)}"
+
+    def wrong_target(self):
+        """That the target is true in an expanded node, or false in a target node."""
+        self.second = NO_VARIABLE
+        told = f"the target, {self.texts.told(self.model.target)},"
         if self.node.kind == EXPANDED:
-            for c, command in enumerate(self.model.commands):
-                if self.in_label.read(command.guard) is None:
-                    guard = f"the guard of {self.names.command(c)}, {self.texts.told(command.guard)},"
-                    return f"is expanded, and {guard} is unknown in its label, {self.unknown_because(command.guard)}"
-            if read:
-                self.advice = "make it a target node, which holds certainty and has no edges"
-                return f"is expanded, and {told} is true in its label: a target state is not expanded"
-        if self.node.kind in (EXPANDED, TARGET) and read is None:
-            return f"is {KINDS[self.node.kind]}, and {told} is unknown in its label, {self.unknown_because(target)}"
-        if self.node.kind == TARGET and not read:
-            self.advice = "expand it, or let it wait"
-            return f"is a target, and {told} is false in its label"
-        return None
+            self.advice = "make it a target node, which holds certainty and has no edges"
+            return f"is expanded, and {told} is true in its label: a target state is not expanded"
+        self.advice = "make it an expanded node, or let it wait"
+        return f"is a target, and {told} is false in its label: a target node has target states alone"
 
     def b1(self):
         if self.node.kind != EXPANDED:
@@ -240,32 +257,43 @@ class NodeRules:
     def b2(self):
         if self.node.kind != EXPANDED:
             return None
-        for edge in self.graph.edges[self.n]:
+        for k, edge in enumerate(self.graph.edges[self.n]):
             for b, successor in enumerate(edge.successors):
-                record = self.first[edge.command] + b
-                why = self.follow_fault(self.model.branches[record].assigned, self.graph.nodes[successor], successor)
+                assigned = self.model.branches[self.first[edge.command] + b].assigned
+                why = self.result_fault(assigned, successor) or self.label_fault(assigned, successor)
                 if why:
-                    return f"leads by {self.names.command(edge.command)}, branch {b}, to node {successor}: {why}"
+                    by = f"edge {k}, {self.names.command(edge.command)}, branch {b},"
+                    return f"leads by {by} to node {successor}: {why}"
         return None
 
-    def follow_fault(self, assigned, node, successor):
+    def result_fault(self, assigned, successor):
+        """Why a successor's concrete label is not the result of a branch that assigns so."""
+        concrete = self.graph.nodes[successor].concrete
         for v, e in enumerate(assigned):
             result = self.in_state.read(e)
-            if node.concrete[v] != result:
+            if concrete[v] != result:
+                self.second = NO_VARIABLE
                 self.advice = "successors stand in branch order, and all new values are worked out from the old state"
                 new = f"{self.name(v)}' = {self.texts.told(e)} gives {result}"
-                return f"{new}, and its concrete label has {self.name(v)} = {node.concrete[v]}"
+                return f"{new}, and its concrete label has {self.name(v)} = {concrete[v]}"
+        return None
+
+    def label_fault(self, assigned, successor):
+        """Why a successor's label does not follow by such a branch: of its tracked variables the lowest that fails."""
+        node = self.graph.nodes[successor]
         for v, e in enumerate(assigned):
-            if not node.tracks(v):
-                continue
             read = self.in_label.read(e)
+            if not node.tracks(v) or read == node.label[v]:
+                continue
+            self.second = v
             new = f"it tracks {self.name(v)}, and {self.name(v)}' = {self.texts.told(e)}"
             if read is None:
-                return f"{new} is unknown in the label of node {self.n}, {self.unknown_because(e)}"
-            if read != node.label[v]:
-                self.advice = "the label value of a tracked variable is the node's concrete value"
-                there = f"the label of node {successor} has {node.label[v]}"
-                return f"{new} is {read} in the label of node {self.n}, where {there}"
+                lacking = self.named(self.lacking(e))
+                self.advice = f"track {lacking} in node {self.n}, or stop tracking {self.name(v)} in node {successor}"
+                return f"{new} is unknown in the label of node {self.n}, which does not track {lacking}"
+            self.advice = "the label value of a tracked variable is the node's concrete value"
+            there = f"the label of node {successor} has {node.label[v]}"
+            return f"{new} is {read} in the label of node {self.n}, where {there}"
         return None
 
     def cover(self):

@@ -5,6 +5,7 @@ CERTAIN = 1_000_000_000  # S: certainty, in units
 LEAST_MODEL_BYTES = 40
 MODEL_BYTES = 40_000
 MOST_VARIABLES = 16
+NO_VARIABLE = 65_535  # the second place of 19 and 21 where it is no variable
 MOST_EXPRESSIONS = 512
 MOST_COMMANDS = 64
 MOST_RECORDS = 1_024  # branches of all commands

@@ -27,12 +27,18 @@ MOST_SIZE = 2 ** (8 * ctypes.sizeof(ctypes.c_size_t)) - 1
 
 
 class Refusal(Exception):
-    """The first broken rule: its number, and the place returned with it (docs/REFUSALS.md)."""
+    """The first broken rule: its number, and the two places returned with it (docs/REFUSALS.md). The second is 0 but
+    for 19 and 21, where it is a variable or NO_VARIABLE."""
 
-    def __init__(self, number, place):
-        super().__init__(number, place)
+    def __init__(self, number, place, second=0):
+        super().__init__(number, place, second)
         self.number = number
         self.place = place
+        self.second = second
+
+    def data(self):
+        """The refusal as JSON has it."""
+        return {"answer": "refused", "number": self.number, "place": self.place, "second": self.second}
 
     def __str__(self):
         return f"refused {self.number} {self.place}"
@@ -71,18 +77,19 @@ class Shared(NamedTuple):
 SIZE = ctypes.c_size_t
 FOLDER = (ctypes.c_char_p, SIZE)
 ROW = (ctypes.c_void_p, SIZE)
-PLACE = ctypes.POINTER(SIZE)
+NUMBERS = ctypes.POINTER(SIZE)
+PLACES = SIZE * 2  # of a refusal
 
 # include/laguipy.h: what each call takes. All return a number but the view.
 CALLS = {
-    "laguipy_model_check": (*FOLDER, PLACE),
-    "laguipy_record_part": (*FOLDER, SIZE, SIZE, PLACE),
-    "laguipy_graph_check": (*FOLDER, *FOLDER, PLACE, PLACE),
-    "laguipy_figure_refusal": (*FOLDER, *FOLDER, SIZE, *ROW, *ROW, PLACE),
-    "laguipy_figure_rows": (*FOLDER, *FOLDER, SIZE, *ROW, *ROW, PLACE),
-    "laguipy_figure": (*FOLDER, *FOLDER, SIZE, *ROW, *ROW, PLACE, PLACE),
-    "laguipy_step": (*FOLDER, *ROW, SIZE, SIZE, *ROW, PLACE),
-    "laguipy_index": (*FOLDER, *FOLDER, *ROW, *ROW, *ROW, *ROW, PLACE, PLACE),
+    "laguipy_model_check": (*FOLDER, NUMBERS),
+    "laguipy_record_part": (*FOLDER, SIZE, SIZE, NUMBERS),
+    "laguipy_graph_check": (*FOLDER, *FOLDER, NUMBERS, NUMBERS),
+    "laguipy_figure_refusal": (*FOLDER, *FOLDER, SIZE, *ROW, *ROW, NUMBERS),
+    "laguipy_figure_rows": (*FOLDER, *FOLDER, SIZE, *ROW, *ROW, NUMBERS),
+    "laguipy_figure": (*FOLDER, *FOLDER, SIZE, *ROW, *ROW, NUMBERS, NUMBERS),
+    "laguipy_step": (*FOLDER, *ROW, SIZE, SIZE, *ROW, NUMBERS),
+    "laguipy_index": (*FOLDER, *FOLDER, *ROW, *ROW, *ROW, *ROW, NUMBERS, NUMBERS),
 }
 
 
@@ -198,9 +205,9 @@ def nodes(count):
     return array("H", bytes(2 * count))
 
 
-def answered(number, place):
+def answered(number, places):
     if number:
-        raise Refusal(number, place.value)
+        raise Refusal(number, *places)
 
 
 # ---- the calls
@@ -208,8 +215,8 @@ def answered(number, place):
 
 def model_check(model):
     """The model check: refusals 1 to 11."""
-    place = SIZE()
-    answered(loaded().laguipy_model_check(*passed(folder_bytes(model)), place), place)
+    places = PLACES()
+    answered(loaded().laguipy_model_check(*passed(folder_bytes(model)), places), places)
 
 
 def record_part(model, body, record):
@@ -223,27 +230,27 @@ def record_part(model, body, record):
 
 def graph_check(model, graph):
     """The graph check: refusals 1 to 11, then 12 to 25. Accepted, the `Summary`."""
-    place, values = SIZE(), (SIZE * 5)()
+    places, values = PLACES(), (SIZE * 5)()
     folders = *passed(folder_bytes(model)), *passed(folder_bytes(graph))
-    answered(loaded().laguipy_graph_check(*folders, place, values), place)
+    answered(loaded().laguipy_graph_check(*folders, places, values), places)
     return Summary(*values)
 
 
 def figure_refusal(model, graph, h, first, second):
     """Raises what `figure` would on these arguments; the rows are not written."""
-    place, rows = SIZE(), two_rows(first, second)
+    places, rows = PLACES(), two_rows(first, second)
     folders = *passed(folder_bytes(model)), *passed(folder_bytes(graph))
     lent = *rows[0].arguments, *rows[1].arguments
-    answered(loaded().laguipy_figure_refusal(*folders, size(h, "h"), *lent, place), place)
+    answered(loaded().laguipy_figure_refusal(*folders, size(h, "h"), *lent, places), places)
 
 
 def figure_rows(model, graph, h, first, second):
     """The figures for h steps, one per node: round h in the first row if h is even, else in the second, and round
     h - 1 in the other, which is untouched at h = 0. Elements past the node count stay. Refused like `figure`."""
-    place, rows = SIZE(), two_rows(first, second)
+    places, rows = PLACES(), two_rows(first, second)
     folders = *passed(folder_bytes(model)), *passed(folder_bytes(graph))
     lent = *rows[0].arguments, *rows[1].arguments
-    answered(loaded().laguipy_figure_rows(*folders, size(h, "h"), *lent, place), place)
+    answered(loaded().laguipy_figure_rows(*folders, size(h, "h"), *lent, places), places)
 
 
 def figure(model, graph, h, first=None, second=None):
@@ -255,10 +262,10 @@ def figure(model, graph, h, first=None, second=None):
     h is over MOST_STEPS, 28 where a row is shorter than the nodes.
     """
     held = [units(MOST_NODES) if row is None else row for row in (first, second)]
-    place, part, rows = SIZE(), (SIZE * 2)(), two_rows(*held)
+    places, part, rows = PLACES(), (SIZE * 2)(), two_rows(*held)
     folders = *passed(folder_bytes(model)), *passed(folder_bytes(graph))
     lent = *rows[0].arguments, *rows[1].arguments
-    answered(loaded().laguipy_figure(*folders, size(h, "h"), *lent, place, part), place)
+    answered(loaded().laguipy_figure(*folders, size(h, "h"), *lent, places, part), places)
     return memoryview(held[part[0]])[: part[1]]
 
 
@@ -272,10 +279,10 @@ def step(model, state, command, branch, result=None):
     """
     values = state_values(state)
     held = array("h", [0] * MOST_VARIABLES) if result is None else result
-    place, given, row = SIZE(), Row(values, VALUE, "the state"), Row(held, VALUE, "the result row")
+    places, given, row = PLACES(), Row(values, VALUE, "the state"), Row(held, VALUE, "the result row")
     numbers = size(command, "the command"), size(branch, "the branch")
     call = loaded().laguipy_step
-    answered(call(*passed(folder_bytes(model)), *given.arguments, *numbers, *row.arguments, place), place)
+    answered(call(*passed(folder_bytes(model)), *given.arguments, *numbers, *row.arguments, places), places)
     return memoryview(held)[: len(values)]
 
 
@@ -292,7 +299,7 @@ def index(model, graph, batch=(), slots=None, answers=None, listing=None):
     # A state has a value at least, so that there are no more states than values.
     found = nodes(len(values)) if answers is None else answers
     listed = nodes(MOST_NODES) if listing is None else listing
-    place, count = SIZE(), SIZE()
+    places, count = PLACES(), SIZE()
     rows = apart(
         Row(held, NODE, "the slots"),
         Row(values, VALUE, "the batch"),
@@ -301,7 +308,7 @@ def index(model, graph, batch=(), slots=None, answers=None, listing=None):
     )
     folders = *passed(folder_bytes(model)), *passed(folder_bytes(graph))
     lent = [argument for row in rows for argument in row.arguments]
-    answered(loaded().laguipy_index(*folders, *lent, place, count), place)
+    answered(loaded().laguipy_index(*folders, *lent, places, count), places)
     states = len(values) // max(1, variables_of(model))
     return Shared(memoryview(listed)[: count.value], memoryview(found)[:states])
 

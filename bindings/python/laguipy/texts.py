@@ -27,20 +27,12 @@ class Wrong(InputError):
         self.refusal, self.path, self.text_line, self.told = refusal, named(path), line, told
 
     def data(self):
-        refusal = self.refusal
-        return {
-            "answer": "refused",
-            "number": refusal.number,
-            "place": refusal.place,
-            "file": self.path,
-            "line": self.text_line,
-            "message": self.told,
-        }
+        return {**self.refusal.data(), "file": self.path, "line": self.text_line, "message": self.told}
 
 
 def matching(finding, refusal):
     """The finding, where it is the one that the proved check refuses."""
-    return finding if finding and (finding.number, finding.place) == (refusal.number, refusal.place) else None
+    return finding if finding and finding.outcome == refusal.args else None
 
 
 def model_of(path):
