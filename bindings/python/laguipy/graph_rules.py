@@ -291,7 +291,7 @@ class NodeRules:
                 lacking = self.named(self.lacking(e))
                 self.advice = f"track {lacking} in node {self.n}, or stop tracking {self.name(v)} in node {successor}"
                 return f"{new} is unknown in the label of node {self.n}, which does not track {lacking}"
-            self.advice = "the label value of a tracked variable is the node's concrete value"
+            self.advice = f"write {read} there: the label value of a tracked variable is the node's concrete value"
             there = f"the label of node {successor} has {node.label[v]}"
             return f"{new} is {read} in the label of node {self.n}, where {there}"
         return None

@@ -5,8 +5,12 @@ import unittest
 
 from support import EXAMPLES, PEDAL, Room, read, run
 
-from laguipy.explain import Explanation
+from laguipy import NO_VARIABLE, write_graph, write_model
+from laguipy.explain import Explanation, explain, told
 from laguipy.findings import Finding
+from laguipy.names import Names
+
+SECONDS = {"refused_19": 0, "refused_21": 1}  # of the examples
 
 # For each cause of refusals 15 to 25, what is changed in the text of the pedal's graph, and what is said.
 SURE = (
@@ -65,7 +69,8 @@ CAUSES = {
         "19 5: node 5 (a = 2, d = 0) is target, and the target, a = 2, is unknown in its label, which does not track a"
     ),
     (("node 4 covered by 1 value 0", "node 4 target"), *SURE): (
-        "19 4: node 4 (a = 3, d = 0) is a target, and the target, a = 2, is false in its label"
+        "19 4: node 4 (a = 3, d = 0) is a target, and the target, a = 2, is false in its label: a target node has "
+        "target states alone"
     ),
     (("  edge 1: 3\n", ""),): (
         "20 0: node 0 (a = 0, d = 0) has edges of commands 0, and commands 0 and 1 are due: command 1 is enabled "
@@ -84,16 +89,16 @@ CAUSES = {
         "1 stands where that of command 0 is asked"
     ),
     (("edge 0: 1 2", "edge 0: 2 1"),): (
-        "21 0: node 0 (a = 0, d = 0) leads by command 0, branch 0, to node 2: a' = 3 gives 3, and its concrete label "
-        "has a = 1"
+        "21 0: node 0 (a = 0, d = 0) leads by edge 0, command 0, branch 0, to node 2: a' = 3 gives 3, and its concrete "
+        "label has a = 1"
     ),
     (("tracks a=0 state a=0 d=1", "tracks a=0 d=1 state a=0 d=1"),): (
-        "21 0: node 0 (a = 0, d = 0) leads by command 1, branch 0, to node 3: it tracks d, and d' = 1 - d is unknown "
-        "in the label of node 0, which does not track d"
+        "21 0: node 0 (a = 0, d = 0) leads by edge 1, command 1, branch 0, to node 3: it tracks d, and d' = 1 - d is "
+        "unknown in the label of node 0, which does not track d"
     ),
     (("tracks a=1", "tracks a=3"),): (
-        "21 0: node 0 (a = 0, d = 0) leads by command 0, branch 1, to node 2: it tracks a, and a' = smaller(a + 1, 2) "
-        "is 1 in the label of node 0, where the label of node 2 has 3"
+        "21 0: node 0 (a = 0, d = 0) leads by edge 0, command 0, branch 1, to node 2: it tracks a, and a' = "
+        "smaller(a + 1, 2) is 1 in the label of node 0, where the label of node 2 has 3"
     ),
     (("covered by 1", "covered by 9"),): (
         "22 4: node 4 (a = 3, d = 0) is covered by node 9, and the nodes are 0 to 5"
@@ -135,12 +140,181 @@ class Causes(Room):
             self.assertEqual(run("graph", self.path("g.graph", changed), "-m", model, "-o", graph, "--anyway")[0], 0)
             status, out, _ = run("explain", model, graph)
             lines = out.decode().splitlines()
+            if told.split()[0] in ("19", "21"):
+                self.assertTrue(lines.pop(1).startswith("second place "))
             self.assertEqual((status, f"{lines[0]}: {lines[1]}"), (1, f"refused {told}"))
             self.assertTrue(lines[-2].startswith("what to do: "))
-            self.assertIn("Its number and place are the proved ones.", lines[-1])
+            self.assertTrue(lines[-1].endswith(" are the proved ones."))
             sums = ["that is (9 * 0 of node 1 + 1 * 100000000 of node 2) / 10, rounded up"]
             self.assertEqual(lines[2:-2], sums if "asks for" in told else [])
         self.assertEqual({told.split()[0] for told in CAUSES.values()}, {str(number) for number in range(15, 26)})
+
+
+# A model whose guards and target mention x, y and z, and some new values w. In the guard of turn, what mentions x is
+# false whatever x is, so that the guard is unknown by y alone.
+MODEL = """\
+total 2
+variable x 0..3 = 0
+variable y 0..3 = 0
+variable z 0..3 = 0
+variable w 0..3 = 0
+target x + z = 3
+command turn: y = 0 or (not true and x = 0)
+  1: x' = 1, y' = 1
+  1: z' = smaller(w + 1, 3)
+command move: z < 3
+  1: x' = y, z' = 2
+  1: w' = smaller(x + w, 3), y' = smaller(w + z, 3)
+"""
+GRAPH = """\
+node 0 expanded value S tracks x y z state x=0 y=0 z=0 w=0
+  edge turn: 1 2
+  edge move: 3 4
+node 1 waiting tracks none state x=1 y=1 z=0 w=0
+node 2 waiting tracks none state x=0 y=0 z=1 w=0
+node 3 waiting tracks none state x=0 y=0 z=2 w=0
+node 4 waiting tracks none state x=0 y=0 z=0 w=0
+node 5 target tracks x z state x=0 y=0 z=3 w=0
+"""
+ROOT = "node 0 expanded value S tracks x y z state"
+TURN = "the guard of command 0 (turn), y = 0 or not true and x = 0, is unknown in its label"
+MOVE = "the guard of command 1 (move), z < 3, is unknown in its label"
+AIM = "the target, x + z = 3, is unknown in its label"
+NODE_1, NODE_2, NODE_3, NODE_4 = (
+    f"leads by edge {edge}, {command}, branch {branch}, to node {node}: "
+    for edge, command, branch, node in (
+        (0, "command 0 (turn)", 0, 1),
+        (0, "command 0 (turn)", 1, 2),
+        (1, "command 1 (move)", 0, 3),
+        (1, "command 1 (move)", 1, 4),
+    )
+)
+
+
+def root(tracks):
+    return (ROOT, f"node 0 expanded value S tracks {tracks} state")
+
+
+def tracking(node, tracks):
+    """A successor that tracks something."""
+    return (f"node {node} waiting tracks none", f"node {node} waiting tracks {tracks}")
+
+
+# For each situation what is changed in the graph, the number and both places, and parts of what is said and advised.
+SITUATIONS = {
+    "a variable that only a known part mentions": (
+        [root("z")], (19, 0, 0), f"{TURN}, which does not track x and y", "track x in node 0, and y where that is not"
+    ),
+    "one variable": (
+        [root("x z")], (19, 0, 1), f"{TURN}, which does not track y", "track y in node 0, or write the guard without y"
+    ),
+    "the guards before the target": ([root("x")], (19, 0, 1), f"{TURN}, which does not track y", "track y in node 0"),
+    "the second guard, before the target": ([root("y")], (19, 0, 2), f"{MOVE}, which does not track z", "track z"),
+    "the target, after the guards": (
+        [root("y z")], (19, 0, 0),
+        f"is expanded, and {AIM}, which does not track x", "track x in node 0, or write the target without x",
+    ),
+    "the target of a target node, the lowest of two": (
+        [("tracks x z state x=0 y=0 z=3", "tracks y state x=0 y=0 z=3")], (19, 5, 0),
+        f"is target, and {AIM}, which does not track x and z", "track x in node 5, and z where that is not enough",
+    ),
+    "the target of a target node": (
+        [("tracks x z state x=0 y=0 z=3", "tracks x state x=0 y=0 z=3")], (19, 5, 2),
+        f"is target, and {AIM}, which does not track z", "track z in node 5",
+    ),
+    "an unknown guard before a target that is wrong": (
+        [("node 5 target", "node 5 expanded value S")], (19, 5, 1),
+        f"{TURN}, which does not track y", "track y in node 5",
+    ),
+    "an expanded target": (
+        [("node 5 target tracks x z", "node 5 expanded value S tracks x y z")], (19, 5, NO_VARIABLE),
+        "is expanded, and the target, x + z = 3, is true in its label", "make it a target node",
+    ),
+    "a target that is none": (
+        [("node 4 waiting tracks none", "node 4 target tracks x z")], (19, 4, NO_VARIABLE),
+        "is a target, and the target, x + z = 3, is false in its label", "make it an expanded node",
+    ),
+    "the concrete label": (
+        [("edge turn: 1 2", "edge turn: 3 2")], (21, 0, NO_VARIABLE),
+        "branch 0, to node 3: x' = 1 gives 1, and its concrete label has x = 0", "successors stand in branch order",
+    ),
+    "the concrete label before a lower variable's label": (
+        [tracking(1, "x=2"), ("x=1 y=1 z=0", "x=1 y=1 z=1")], (21, 0, NO_VARIABLE),
+        f"{NODE_1}z' = z gives 0, and its concrete label has z = 1", "successors stand in branch order",
+    ),
+    "another value": (
+        [tracking(1, "x y=2")], (21, 0, 1),
+        f"{NODE_1}it tracks y, and y' = 1 is 1 in the label of node 0, where the label of node 1 has 2", "write 1 there",
+    ),
+    "two other values": (
+        [tracking(1, "x=3 y=2")], (21, 0, 0),
+        f"{NODE_1}it tracks x, and x' = 1 is 1 in the label of node 0, where the label of node 1 has 3", "write 1 there",
+    ),
+    "an unknown value of the second branch, assigned to another variable than is missing": (
+        [tracking(2, "x z")], (21, 0, 2),
+        f"{NODE_2}it tracks z, and z' = smaller(w + 1, 3) is unknown in the label of node 0, which does not track w",
+        "track w in node 0, or stop tracking z in node 2",
+    ),
+    "an unknown value below another value": (
+        [tracking(2, "y=3 z")], (21, 0, 1),
+        f"{NODE_2}it tracks y, and y' = y is 0 in the label of node 0, where the label of node 2 has 3", "write 0 there",
+    ),
+    "the first branch before the second's concrete label": (
+        [tracking(1, "y=2"), ("x=0 y=0 z=1", "x=1 y=0 z=1")], (21, 0, 1), f"{NODE_1}it tracks y", "write 1 there"
+    ),
+    "the first edge before the second's concrete label": (
+        [tracking(2, "z"), ("x=0 y=0 z=2", "x=1 y=0 z=2")], (21, 0, 2), f"{NODE_2}it tracks z", "track w in node 0"
+    ),
+    "the second edge": (
+        [("x=0 y=0 z=2", "x=1 y=0 z=2")], (21, 0, NO_VARIABLE),
+        f"{NODE_3}x' = y gives 0, and its concrete label has x = 1", "successors stand in branch order",
+    ),
+    "the second branch of the second edge": (
+        [tracking(4, "x w")], (21, 0, 3),
+        f"{NODE_4}it tracks w, and w' = smaller(x + w, 3) is unknown in the label of node 0, which does not track w",
+        "track w in node 0, or stop tracking w in node 4",
+    ),
+}  # fmt: skip
+
+
+class Seconds(unittest.TestCase):
+    """The second places of 19 and 21, the library's and those of the rules of this package, and what is said."""
+
+    SAID = {
+        (19, True): "variable {} is the lowest that is mentioned and not tracked",
+        (19, False): "no variable is missing: the target is known, and wrong for the node's kind",
+        (21, True): "the successor's label does not follow in variable {}",
+        (21, False): "the successor's concrete label does not follow",
+    }
+
+    def setUp(self):
+        self.model = write_model(MODEL)
+
+    def explained(self, changes=()):
+        text = GRAPH
+        for old, new in changes:
+            self.assertEqual(text.count(old), 1, old)
+            text = text.replace(old, new)
+        return explain(self.model.data, write_graph(text, self.model.data, self.model.names).data, self.model.names)
+
+    def test_unchanged(self):
+        self.assertEqual(self.explained().outcome, (0, 0, 0))
+
+    def test_situations(self):
+        for name, (changes, outcome, said, advice) in SITUATIONS.items():
+            with self.subTest(name):
+                explanation = self.explained(changes)
+                self.assertEqual(explanation.outcome, outcome)
+                self.assertEqual(explanation.finding.outcome, outcome)
+                number, place, second = outcome
+                known = second < NO_VARIABLE
+                second_told = self.SAID[number, known].format("xyzw"[second] if known else "")
+                lines = explanation.lines()
+                self.assertEqual(lines[:2], [f"refused {number} {place}", f"second place {second}: {second_told}"])
+                self.assertIn(said, lines[2])
+                self.assertIn(f"what to do: {advice}", lines[3])
+                self.assertTrue(lines[4].endswith("Its number and both places are the proved ones."))
+                self.assertEqual(explanation.data()["second"], second)
 
 
 class Models(Room):
@@ -207,16 +381,35 @@ class Explain(unittest.TestCase):
             status, out, _ = run("explain", os.path.join(EXAMPLES, name))
             self.assertEqual(status, 1)
             self.assertIn(line, out.decode())
-            self.assertIn("not part of what is proved. Its number and place are the proved ones", out.decode())
+            places = "both places" if name in SECONDS else "place"
+            self.assertIn(f"not part of what is proved. Its number and {places} are the proved ones", out.decode())
             data = json.loads(run("explain", "--json", os.path.join(EXAMPLES, name))[1])
             self.assertTrue(data["agrees"] and line in data["explanation"])
+            self.assertEqual(data["second"], SECONDS.get(name, 0))
         self.assertEqual(run("explain", PEDAL)[0], 0)
+        self.assertEqual(json.loads(run("explain", "--json", PEDAL)[1])["second"], 0)
 
     def test_one_that_does_not_agree_says_so(self):
-        other = Explanation("refused 25 0", 25, 0, Finding(24, 1, "something else"), False)
-        self.assertIn("does NOT agree", other.lines()[-1])
-        self.assertIn("does NOT agree", Explanation("accepted", 0, 0, Finding(24, 1, "x"), False).lines()[-1])
-        self.assertIn("no broken rule", Explanation("refused 25 0", 25, 0, None, False).lines()[-1])
+        for outcome, finding in (
+            ((25, 0, 0), Finding(24, 1, "something else")),
+            ((25, 0, 0), Finding(25, 1, "something else")),
+            ((21, 0, 1), Finding(21, 0, "something else", second=2)),
+            ((0, 0, 0), Finding(24, 1, "something else")),
+            ((25, 0, 0), None),
+        ):
+            other = Explanation(outcome, finding, None)
+            self.assertIn("does NOT agree", other.lines()[-1])
+            self.assertIn(told(finding.outcome) if finding else "no broken rule", other.lines()[-1])
+            self.assertFalse(other.data()["agrees"])
+
+    def test_the_second_place_is_the_library_s(self):
+        """Not what the rules of this package find, and told where these differ too."""
+        names = Names(["x", "y"], [])
+        lines = Explanation((21, 0, 1), Finding(21, 0, "something else", second=0), names).lines()
+        self.assertEqual(lines[1], "second place 1: the successor's label does not follow in variable y")
+        self.assertIn("refused 21 0 with second place 1: it finds refused 21 0 with second place 0", lines[-1])
+        self.assertIn("variable v1", Explanation((19, 0, 1), None, None).lines()[1])
+        self.assertIn("variable v9", Explanation((19, 0, 9), None, names).lines()[1])
 
 
 if __name__ == "__main__":

@@ -2,12 +2,13 @@
 import json
 import mmap
 import os
+import pickle
 import tempfile
 import threading
 import unittest
 from array import array
 
-from support import example, read
+from support import PEDAL, example, read
 
 import laguipy
 from laguipy import Refusal, native
@@ -19,6 +20,14 @@ FIGURES = [10_000_000, 0, 100_000_000, 10_000_000, 0, laguipy.CERTAIN]
 
 def rows(first=8, second=8):
     return array("I", [9] * first), array("I", [9] * second)
+
+
+def changed(data, *changes):
+    """A folder with other bytes, given by where they start."""
+    data = bytearray(data)
+    for at, *values in changes:
+        data[at : at + len(values)] = values
+    return bytes(data)
 
 
 class Answers(unittest.TestCase):
@@ -34,19 +43,80 @@ class Answers(unittest.TestCase):
     def refused(self, call, *arguments):
         with self.assertRaises(Refusal) as caught:
             call(*arguments)
-        return caught.exception.number, caught.exception.place
+        refusal = caught.exception
+        return refusal.number, refusal.place, refusal.second
 
     def test_refusals(self):
-        self.assertEqual(self.refused(laguipy.model_check, b""), (1, 0))
-        self.assertEqual(self.refused(laguipy.graph_check, MODEL, GRAPH[1:]), (13, 0))
-        self.assertEqual(self.refused(laguipy.figure, MODEL, GRAPH, 10_001), (27, 0))
-        self.assertEqual(self.refused(laguipy.figure, MODEL, GRAPH, 1, *rows(5, 8)), (28, 0))
-        self.assertEqual(self.refused(laguipy.figure_refusal, MODEL, GRAPH, 1, *rows(8, 5)), (28, 1))
-        self.assertEqual(self.refused(laguipy.step, MODEL, [1, 0], 1, 0), (32, 1))
-        self.assertEqual(self.refused(laguipy.step, MODEL, [0], 0, 0), (29, 0))
-        self.assertEqual(self.refused(laguipy.step, MODEL, [0, 0], 2**64 - 1, 0), (31, 2**64 - 1))
-        self.assertEqual(str(Refusal(25, 3)), "refused 25 3")
-        self.assertEqual(Refusal(25, 3), Refusal(25, 3))
+        self.assertEqual(self.refused(laguipy.model_check, b""), (1, 0, 0))
+        self.assertEqual(self.refused(laguipy.graph_check, MODEL, GRAPH[1:]), (13, 0, 0))
+        self.assertEqual(self.refused(laguipy.figure, MODEL, GRAPH, 10_001), (27, 0, 0))
+        self.assertEqual(self.refused(laguipy.figure, MODEL, GRAPH, 1, *rows(5, 8)), (28, 0, 0))
+        self.assertEqual(self.refused(laguipy.figure_refusal, MODEL, GRAPH, 1, *rows(8, 5)), (28, 1, 0))
+        self.assertEqual(self.refused(laguipy.step, MODEL, [1, 0], 1, 0), (32, 1, 0))
+        self.assertEqual(self.refused(laguipy.step, MODEL, [0], 0, 0), (29, 0, 0))
+        self.assertEqual(self.refused(laguipy.step, MODEL, [0, 0], 2**64 - 1, 0), (31, 2**64 - 1, 0))
+
+    def test_refusal(self):
+        self.assertEqual(str(Refusal(21, 3, 1)), "refused 21 3")
+        self.assertEqual(Refusal(25, 3), Refusal(25, 3, 0))
+        self.assertNotEqual(Refusal(21, 3, 1), Refusal(21, 3, 2))
+        self.assertEqual(pickle.loads(pickle.dumps(Refusal(21, 3, 1))).second, 1)
+
+    def test_second_places(self):
+        """Of 19 and 21 every call that checks the graph gives the second place."""
+        calls = (
+            laguipy.graph_check,
+            laguipy.index,
+            lambda *folders: laguipy.figure(*folders, 1),
+            lambda *folders: laguipy.figure_rows(*folders, 1, *rows()),
+            lambda *folders: laguipy.figure_refusal(*folders, 1, *rows()),
+        )
+        told = read(os.path.join(PEDAL, "pedal.graph"), "r").replace("node 5 target", "node 5 expanded")
+        wrong_kind = laguipy.write_graph(told, MODEL, ["a", "d"]).data
+        for call in calls:
+            self.assertEqual(self.refused(call, *example("refused_19")), (19, 0, 0))
+            self.assertEqual(self.refused(call, *example("refused_21")), (21, 0, 1))
+            self.assertEqual(self.refused(call, MODEL, wrong_kind), (19, 5, laguipy.NO_VARIABLE))
+
+    def test_second_place_of_all_others(self):
+        """It is 0, of every number but 19 and 21."""
+        model = lambda *changes: (laguipy.model_check, changed(MODEL, *changes))  # noqa: E731
+        graph = lambda *changes: (laguipy.graph_check, MODEL, changed(GRAPH, *changes))  # noqa: E731
+        waiting = laguipy.write_graph("node 0 waiting tracks none state a=0 d=0\n", MODEL, ["a", "d"]).data
+        ways = {
+            1: (laguipy.model_check, b""),
+            2: (laguipy.model_check, MODEL + b"x"),
+            3: (laguipy.model_check, changed(MODEL, (36, 17))[:-1]),
+            4: model((44, 5)),
+            5: model((56, 15)),
+            6: model((46, 48, 117), (74, 255, 127), (136, 4)),
+            7: model((40, 0)),
+            8: model((152, 0)),
+            9: model((158, 2)),
+            10: model((160, 0)),
+            11: model((160, 8)),
+            12: (laguipy.graph_check, MODEL, b""),
+            13: (laguipy.graph_check, MODEL, GRAPH[1:]),
+            14: graph((4, 119), (8, 135), (12, 17)),
+            15: graph((16, 7)),
+            16: graph((136, 9)),
+            17: graph((28, 1)),
+            18: graph((32, 1)),
+            **{number: (laguipy.graph_check, *example(f"refused_{number}")) for number in (20, 22, 23, 24, 25)},
+            26: (laguipy.figure, MODEL, waiting, 1),
+            27: (laguipy.figure, MODEL, GRAPH, 10_001),
+            28: (laguipy.figure, MODEL, GRAPH, 1, *rows(5, 8)),
+            29: (laguipy.step, MODEL, [0], 0, 0),
+            30: (laguipy.step, MODEL, [9, 0], 0, 0),
+            31: (laguipy.step, MODEL, [0, 0], 2, 0),
+            32: (laguipy.step, MODEL, [1, 0], 1, 0),
+            33: (laguipy.step, MODEL, [0, 0], 1, 1),
+            34: (laguipy.index, MODEL, GRAPH, [0]),
+        }
+        self.assertEqual(set(ways), set(range(1, 35)) - {19, 21})
+        for number, way in ways.items():
+            came, _, second = self.refused(*way)
+            self.assertEqual((came, second), (number, 0))
 
     def test_rows(self):
         first, second = rows()
@@ -66,7 +136,7 @@ class Answers(unittest.TestCase):
             self.assertEqual(self.refused(call, MODEL, GRAPH[:-1], 3, first, second)[0], 13)
             self.assertEqual((first, second), rows())
         result = array("h", [7] * 4)
-        self.assertEqual(self.refused(laguipy.step, MODEL, [9, 0], 0, 1, result), (30, 0))
+        self.assertEqual(self.refused(laguipy.step, MODEL, [9, 0], 0, 1, result), (30, 0, 0))
         self.assertEqual(result.tolist(), [7] * 4)
         self.assertEqual(laguipy.step(MODEL, [0, 0], 0, 1, result).tolist(), [1, 0])
         self.assertEqual(result.tolist(), [1, 0, 7, 7])
@@ -89,9 +159,9 @@ class Answers(unittest.TestCase):
         wrong = ((8191, 3, 6), [0, 0]), ((8192, 3, 6), [0]), ((8192, 0, 6), [0, 0]), ((8192, 1, 5), [0, 0])
         for place, (lengths, batch) in enumerate(wrong):
             lent = [array("H", [9] * length) for length in lengths]
-            self.assertEqual(self.refused(laguipy.index, MODEL, GRAPH, batch, *lent), (34, place))
+            self.assertEqual(self.refused(laguipy.index, MODEL, GRAPH, batch, *lent), (34, place, 0))
             self.assertEqual([row.tolist() for row in lent], [[9] * length for length in lengths])
-        self.assertEqual(self.refused(laguipy.index, MODEL, GRAPH[:-1], [0]), (13, 1))
+        self.assertEqual(self.refused(laguipy.index, MODEL, GRAPH[:-1], [0]), (13, 1, 0))
 
     def test_index_arguments(self):
         room = array("H", bytes(2 * laguipy.SLOTS))
@@ -204,12 +274,12 @@ class Independent(unittest.TestCase):
 
     def answer(self, call, *arguments):
         try:
-            return {"number": 0, "place": 0}, call(*arguments)
+            return (0, 0, 0), call(*arguments)
         except Refusal as refusal:
-            return {"number": refusal.number, "place": refusal.place}, None
+            return (refusal.number, refusal.place, refusal.second), None
 
     def due(self, case, call):
-        return {key: case["answers"][call][key] for key in ("number", "place")}
+        return tuple(case["answers"][call][key] for key in ("number", "place", "second"))
 
     def compare(self, case):
         model, graph = bytes.fromhex(case["model"]), bytes.fromhex(case["graph"])
@@ -240,9 +310,9 @@ class Independent(unittest.TestCase):
                 continue
             self.assertEqual([row.tolist() for row in before], [due["first_row"], due["second_row"]], name)
             if part is not None:
-                held = due["second_row"] if due["second"] else due["first_row"]
+                held = due["second_row"] if due["row"] else due["first_row"]
                 self.assertEqual(part.tolist(), held[: due["nodes"]], name)
-                self.assertIs(part.obj, before[due["second"]], name)
+                self.assertIs(part.obj, before[due["row"]], name)
 
 
     def compare_index(self, case, model, graph, name):

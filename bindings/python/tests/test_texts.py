@@ -45,10 +45,10 @@ class RoundTrips(unittest.TestCase):
             model_check(written.data)
             answer = None
         except Refusal as refusal:
-            answer = (refusal.number, refusal.place)
+            answer = refusal.args
         # An empty graph is refused with 12 where the model is right.
         found = finding_of(written.data, b"", written.names)
-        self.assertEqual((found.number, found.place), answer or (12, 0))
+        self.assertEqual(found.outcome, answer or (12, 0, 0))
 
 
 def random_model(dice):
