@@ -13,8 +13,10 @@ import unittest.mock
 
 from support import EXAMPLES, LAGUIPY, PEDAL, ROOT, SCAN, Room, example, examples, interruptible, read, run, start
 
+from laguipy import check
 from laguipy.advice import runs
-from laguipy.output import Ticker
+from laguipy.inputs import Pair
+from laguipy.output import RunError, Ticker
 from laguipy.series import Estimate, calls_for, told_time
 
 
@@ -44,7 +46,33 @@ class Check(Room):
         self.assertEqual(data["within"], [0, 0, 10_000_000, 10_000_000])
         self.assertEqual(len(data["warnings"]), 1)
         data = json.loads(run("check", "--json", os.path.join(EXAMPLES, "refused_22"))[1])
-        self.assertEqual((data["number"], data["place"]), (22, 3))
+        self.assertEqual((data["number"], data["place"], data["second"]), (22, 3, 0))
+
+    def test_json_second_place(self):
+        """The report's line has no second place, and JSON has it, in every command that refuses."""
+        for number, second in ((19, 0), (21, 1)):
+            folder = os.path.join(EXAMPLES, f"refused_{number}")
+            paths = os.path.join(folder, "model.fold"), os.path.join(folder, "graph.fold")
+            ways = [("check", folder), ("check", *paths), ("check", "--any-size", folder), ("explain", folder)]
+            ways += [("figures", folder, "3"), ("index", folder)]
+            ways += [("graph", os.path.join(folder, "pedal.graph"), "-m", paths[0], "-o", self.path("g.fold"))]
+            for words in ways:
+                data = json.loads(run(*words, "--json")[1])
+                came = [data[key] for key in ("answer", "number", "place", "second")]
+                self.assertEqual(came, ["refused", number, 0, second], words)
+
+    def test_json_of_what_changes_meanwhile(self):
+        """A report that the library does not give again is an error: its second place would be that of other bytes."""
+        graph = self.path("graph.fold", read(os.path.join(EXAMPLES, "refused_21", "graph.fold")))
+        pair = Pair(os.path.join(PEDAL, "model.fold"), graph)
+        self.assertEqual(check.report_data(pair, b"refused 21 0\n", [])["second"], 1)
+        for line in (b"refused 21 1\n", b"refused 25 0\n"):
+            with self.assertRaises(RunError) as caught:
+                check.report_data(pair, line, [])
+            self.assertIn("the library's answer is 'refused 21 0'", str(caught.exception))
+        with self.assertRaises(RunError) as caught:
+            check.report_data(Pair(pair.model, os.path.join(PEDAL, "graph.fold")), b"refused 21 0\n", [])
+        self.assertIn("the library's answer is 'accepted'", str(caught.exception))
 
     def test_standard_input(self):
         model, graph = (os.path.join(PEDAL, name) for name in ("model.fold", "graph.fold"))
@@ -290,7 +318,7 @@ class Texts(Room):
         self.assertIn(told, said)
         self.assertFalse(os.path.exists(self.path("g.fold")))
         data = json.loads(run(*words, "--json")[1])
-        self.assertEqual((data["number"], data["place"], data["line"]), (22, 5, 19))
+        self.assertEqual([data[key] for key in ("number", "place", "second", "line")], [22, 5, 0, 19])
 
     def test_standard_input_and_output(self):
         text = read(os.path.join(SCAN, "scan.model"))

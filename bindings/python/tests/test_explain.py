@@ -244,20 +244,23 @@ SITUATIONS = {
     ),
     "another value": (
         [tracking(1, "x y=2")], (21, 0, 1),
-        f"{NODE_1}it tracks y, and y' = 1 is 1 in the label of node 0, where the label of node 1 has 2", "write 1 there",
+        f"{NODE_1}it tracks y, and y' = 1 is 1 in the label of node 0, where the label of node 1 has 2",
+        "write 1 there",
     ),
     "two other values": (
         [tracking(1, "x=3 y=2")], (21, 0, 0),
-        f"{NODE_1}it tracks x, and x' = 1 is 1 in the label of node 0, where the label of node 1 has 3", "write 1 there",
+        f"{NODE_1}it tracks x, and x' = 1 is 1 in the label of node 0, where the label of node 1 has 3",
+        "write 1 there",
     ),
     "an unknown value of the second branch, assigned to another variable than is missing": (
         [tracking(2, "x z")], (21, 0, 2),
         f"{NODE_2}it tracks z, and z' = smaller(w + 1, 3) is unknown in the label of node 0, which does not track w",
         "track w in node 0, or stop tracking z in node 2",
     ),
-    "an unknown value below another value": (
+    "another value below one that is unknown": (
         [tracking(2, "y=3 z")], (21, 0, 1),
-        f"{NODE_2}it tracks y, and y' = y is 0 in the label of node 0, where the label of node 2 has 3", "write 0 there",
+        f"{NODE_2}it tracks y, and y' = y is 0 in the label of node 0, where the label of node 2 has 3",
+        "write 0 there",
     ),
     "the first branch before the second's concrete label": (
         [tracking(1, "y=2"), ("x=0 y=0 z=1", "x=1 y=0 z=1")], (21, 0, 1), f"{NODE_1}it tracks y", "write 1 there"
