@@ -270,9 +270,15 @@ def add_index(commands):
     command.add_argument("--states", metavar="FILE", help="states to find, one to a line; - for standard input")
 
 
+EXPLAIN = """\
+PLACE is as for check. 19 and 21 have a second place, a variable's number or 65535, which the report does not print:
+here a line of its own tells it. What --json prints of a refusal, of any command, has it as "second".
+"""
+
+
 def add_explain(commands):
     about = "Says what a refusal means here, and what to do."
-    command = add(commands, "explain", run_explain, about, "PLACE is as for check.")
+    command = add(commands, "explain", run_explain, about, EXPLAIN)
     command.add_argument("places", nargs="*", metavar="PLACE")
 
 
