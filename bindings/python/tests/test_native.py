@@ -335,7 +335,7 @@ class Header(unittest.TestCase):
         text = read(os.path.join(os.path.dirname(__file__), "..", "..", "..", "include", "laguipy.h"), "r")
         words = [line.split() for line in text.splitlines() if line.startswith("#define LAGUIPY_")]
         defined = {line[1]: line[2] for line in words if len(line) == 3}
-        limits = "CERTAIN MOST_NODES MOST_VARIABLES MOST_STEPS MODEL_BYTES GRAPH_BYTES SLOTS NO_NODE"
+        limits = "CERTAIN MOST_NODES MOST_VARIABLES MOST_STEPS MODEL_BYTES GRAPH_BYTES SLOTS NO_NODE NO_VARIABLE"
         for name in limits.split():
             self.assertEqual(int(defined[f"LAGUIPY_{name}"]), getattr(laguipy, name), name)
         self.assertEqual(defined["LAGUIPY_VERSION"].strip('"'), laguipy.__version__)
