@@ -460,8 +460,8 @@ impl Model {
 
     /// What row 19 asks of a node, in order: an expanded one's guards, and the target.
     fn asked(&self, kind: Kind) -> impl Iterator<Item = usize> + '_ {
-        let guards = self.commands.iter().map(|command| command.guard);
-        guards.filter(move |_| kind == Kind::Expanded).chain([self.target])
+        let commands = if kind == Kind::Expanded { &self.commands[..] } else { &[] };
+        commands.iter().map(|command| command.guard).chain([self.target])
     }
 
     /// Row 19, for an expanded or a target node; the table has what its label reads.
