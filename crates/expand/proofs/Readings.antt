@@ -56,6 +56,11 @@ reads-from false y z = refl
 pub at-guard : (test : ℕ → Bool) (m : List ℕ) (c : ℕ) {cs : List ℕ} {e : ℕ} {t : Bool} → cs ≡ body m 3 → e ≡ field 4 cs c 0 → t ≡ test e → t ≡ test (modelOf m .guard c)
 at-guard test m c q p h = h ∙ ap test (p ∙ ap (λ (s : List ℕ). field 4 s c 0) q)
 
+-- All guards, by that body.
+pub guards-read : (m known : List ℕ) {cs : List ℕ} {commands c : ℕ} → cs ≡ body m 3 → commands ≡ modelOf m .commands
+    → c ≡ firstBad (λ i. knownAt known (field 4 cs i 0)) commands → c ≡ firstBad (λ i. knownAt known (modelOf m .guard i)) (modelOf m .commands)
+guards-read m known q k p = p ∙ rw (q, k) refl
+
 module _ {m g : List ℕ} {n : ℕ} {known : List ℕ} {values : List ℤ} (node : NodeOf m g n) (settled : LabelSettled m g n known values) where
   abbrev M : Model
   M = modelOf m

@@ -115,13 +115,11 @@ fn reads_at(known: &[u8], values: &[i64], e: usize, z: i64) -> bool
     known_at(known, e) & whole::equal(evaluate::value_at(values, e), z)
 }
 
-// The first command whose guard does not read known; the count of commands if each does.
-fn open_guard(m: &[u8], known: &[u8]) -> usize
-    requires { ⌜ Valid (now m) ⌝ }
-    ensures { λ r. ⌜ r ≡ firstBad (λ c. knownAt (now (known .entry)) (modelOf (now (m .entry)) .guard c)) (modelOf (now (m .entry)) .commands) ⌝ }
+// The first of the commands in their body whose guard does not read known; their count if each does.
+fn open_guard(cs: &[u8], commands: usize, known: &[u8]) -> usize
+    requires { ⌜ commands ≤ fieldLimit ⌝ }
+    ensures { λ r. ⌜ r ≡ firstBad (λ c. knownAt (now (known .entry)) (field 4 (now (cs .entry)) c 0)) commands ⌝ }
 {
-    let cs = folder::body(m, 3);
-    let commands = command_count(m);
     let mut c = 0;
     while c < commands {
         if known_at(known, folder::field(4, cs, c, 0)) {
@@ -202,9 +200,11 @@ fn expanded_kept(m: &[u8], g: &[u8], n: usize, known: &[u8], values: &[i64], mas
     requires { ⌜ simulationOf (modelOf (now m)) (now g) .kind n ≡ 1 ⌝ }
     ensures { λ r. ⌜ (r .holds ≡ A2 (modelOf (now (m .entry))) (simulationOf (modelOf (now (m .entry))) (now (g .entry))) n) × (r .holds ≡ false → r .second ≡ second19 (modelOf (now (m .entry))) (simulationOf (modelOf (now (m .entry))) (now (g .entry))) n) ⌝ }
 {
-    let c = open_guard(m, known);
-    if c < command_count(m) {
-        let guard = folder::field(4, folder::body(m, 3), c, 0);
+    let cs = folder::body(m, 3);
+    let commands = command_count(m);
+    let c = open_guard(cs, commands, known);
+    if c < commands {
+        let guard = folder::field(4, cs, c, 0);
         let second = lacked_at(m, g, n, known, values, masks, guard);
         return Kept {
             holds: false,

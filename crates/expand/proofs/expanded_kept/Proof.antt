@@ -1,43 +1,48 @@
 use Prim.Native.Nat.{ℕ, _<_, _≤_}
-use mathlib.Core.Path.{_≡_, ap, _∙_, sym}
+use mathlib.Core.Path.{_≡_, ap, _∙_}
 use mathlib.Core.List.{List}
 use native.Mathlib.Omega.{arith}
+use Rattle.folder.specs.Scan.{firstBad}
 use Rattle.folder.specs.Contents.{field}
 use Rattle.expressions.specs.Mentions.{lacked}
 use Rattle.model.specs.Model.{modelOf}
 use Rattle.graph.specs.Simulation.{simulationOf}
 use Rattle.graph.specs.Labels.{readingOf}
-use Rattle.expand.proofs.Readings.{a2-open, second-open, a2-closed, second-closed}
+use Rattle.expand.specs.Tests.{knownAt}
+use Rattle.expand.proofs.Readings.{guards-read, a2-open, second-open, a2-closed, second-closed}
 use borrow.Author.Needs.{needs}
 use Rattle.expand.proofs.expanded_kept.Statement.{statement}
 use Rattle.expand.proofs.expanded_kept.Tie as tie
 
-guard-is : (c : tie.After-field) → c .field .result ≡ modelOf (c .before .before .before .before .before .before .before .before .before .args .m .now) .guard (c .before .before .before .before .open-guard .result)
-guard-is c = c .field .ensures .0 ∙ ap (λ (b : List ℕ). field 4 b (c .before .before .before .before .open-guard .result) 0) (c .before .body .ensures)
+guard-is : (c : tie.After-field) → c .field .result ≡ modelOf (c .before .before .before .before .before .before .before .before .before .args .m .now) .guard (c .before .before .open-guard .result)
+guard-is c = c .field .ensures .0 ∙ ap (λ (b : List ℕ). field 4 b (c .before .before .open-guard .result) 0) (c .before .before .before .before .body .ensures)
 
-there : (c : tie.Then1) → c .before .before .open-guard .result < modelOf (c .before .before .before .before .before .before .before .args .m .now) .commands
-there c = omega (arith, c .if1 .taken, c .before .command-count .ensures .0)
+open-at : (c : tie.After-open-guard) → c .open-guard .result ≡ firstBad (λ i. knownAt (c .before .before .before .before .before .before .before .args .known .now) (modelOf (c .before .before .before .before .before .before .before .args .m .now) .guard i)) (modelOf (c .before .before .before .before .before .before .before .args .m .now) .commands)
+open-at c = guards-read _ _ (c .before .before .body .ensures) (c .before .command-count .ensures .0) (c .open-guard .ensures)
 
-over : (c : tie.Else1) → modelOf (c .before .before .before .before .before .before .before .args .m .now) .commands ≤ c .before .before .open-guard .result
-over c = omega (arith, c .if1 .left, c .before .command-count .ensures .0)
+there : (c : tie.Then1) → c .before .open-guard .result < modelOf (c .before .before .before .before .before .before .before .before .args .m .now) .commands
+there c = omega (arith, c .if1 .taken, c .before .before .command-count .ensures .0)
+
+over : (c : tie.Else1) → modelOf (c .before .before .before .before .before .before .before .before .args .m .now) .commands ≤ c .before .open-guard .result
+over c = omega (arith, c .if1 .left, c .before .before .command-count .ensures .0)
 
 lacked-at-requires : tie.Need-lacked-at-requires
 lacked-at-requires c κs =
     let s = c .before .before .before .before .before .before .before .before .before in
-    (s .pre .0, (s .pre .1 .0, (s .pre .1 .1 .0, rw (guard-is c) (s .pre .0 .model .model .commands _ (there (c .before .before)) .guard))))
+    (s .pre .0, (s .pre .1 .0, (s .pre .1 .1 .0, rw (guard-is c) (s .pre .0 .model .model .commands _ (there (c .before)) .guard))))
 
 returns : tie.Need-returns
 returns c =
     let s = c .before .before .before .before .before .before .before .before .before .before in
-    let o = c .before .before .before .before .before .open-guard .ensures in (
-      a2-open (s .pre .0) (s .pre .1 .0) (s .pre .1 .1 .1) o (there (c .before .before .before)),
-      λ h. c .lacked-at .ensures ∙ ap (λ (e : ℕ). lacked (readingOf (modelOf (s .args .m .now)) (simulationOf (modelOf (s .args .m .now)) (s .args .g .now)) (s .args .n) e)) (guard-is (c .before)) ∙ second-open (s .pre .0) (s .pre .1 .0) (s .pre .1 .1 .1) o (there (c .before .before .before)),
+    let o = open-at (c .before .before .before) in (
+      a2-open (s .pre .0) (s .pre .1 .0) (s .pre .1 .1 .1) o (there (c .before .before)),
+      λ h. c .lacked-at .ensures ∙ ap (λ (e : ℕ). lacked (readingOf (modelOf (s .args .m .now)) (simulationOf (modelOf (s .args .m .now)) (s .args .g .now)) (s .args .n) e)) (guard-is (c .before)) ∙ second-open (s .pre .0) (s .pre .1 .0) (s .pre .1 .1 .1) o (there (c .before .before)),
     )
 
 returns-2 : tie.Need-returns-2
 returns-2 c =
-    let s = c .before .before .before .before .before .before .before .before .before .before .before in
-    let o = c .before .before .before .before .before .before .open-guard .ensures in
+    let s = c .before .before .before .before .before .before .before .before .before .before .before .before in
+    let o = open-at (c .before .before .before .before .before) in
     let k = c .target-kept .ensures in (
       k .0 ∙ a2-closed (s .pre .0) (s .pre .1 .0) (s .pre .1 .1 .1) o (over (c .before .before .before .before)) (c .before .before .field2 .ensures .0 ∙ ap (λ (b : List ℕ). field 4 b 0 1) (c .before .before .before .body2 .ensures)) (c .before .false-at .ensures),
       λ h. k .1 h ∙ second-closed (s .pre .0) (s .pre .1 .0) (s .pre .1 .1 .1) o (over (c .before .before .before .before)),

@@ -1,38 +1,26 @@
 use Prim.Native.Nat.{_-_}
 use mathlib.Core.Path.{ap, _∙_}
-use Rattle.folder.specs.Scan.{firstBad}
+use Rattle.folder.specs.Contents.{field}
 use Rattle.folder.proofs.ScanLaws.{Scanned, scan-start, scan-next, scan-found, scan-over}
-use Rattle.model.specs.Model.{modelOf}
 use Rattle.expand.specs.Tests.{knownAt}
-use Rattle.expand.proofs.Readings.{at-guard}
 use borrow.Author.Needs.{needs}
 use Rattle.expand.proofs.open_guard.Statement.{statement}
 use Rattle.expand.proofs.open_guard.Tie as tie
 
 abbrev Inv-loop : tie.InvT-loop
-Inv-loop m known cs commands c₀ c = Scanned (λ i. knownAt known (modelOf m .guard i)) commands c
+Inv-loop cs commands known c₀ c = Scanned (λ i. knownAt known (field 4 cs i 0)) commands c
 
 abbrev μ-loop : tie.MeasureT-loop
-μ-loop m known cs commands c₀ c = commands - c
-
-loop-holds : tie.Need-loop-holds Inv-loop μ-loop
-loop-holds c = scan-start _ _
+μ-loop cs commands known c₀ c = commands - c
 
 loop-again : tie.Need-loop-again Inv-loop μ-loop
-loop-again c =
-    let e = c .before .before in
-    let l = e .before .before in
-    scan-next (l .loop .inv) (e .before .loop-test .taken) (at-guard (knownAt _) _ _ (l .before .before .body .ensures) (e .field .ensures .0) (c .before .known-at .ensures)) (c .if1 .taken)
+loop-again c = scan-next (c .before .before .before .before .loop .inv) (c .before .before .before .loop-test .taken) (c .before .known-at .ensures ∙ ap (knownAt _) (c .before .before .field .ensures .0)) (c .if1 .taken)
 
 returns : tie.Need-returns Inv-loop μ-loop
-returns c =
-    let e = c .before .before in
-    let l = e .before .before in
-    scan-found (l .loop .inv) (e .before .loop-test .taken) (at-guard (knownAt _) _ _ (l .before .before .body .ensures) (e .field .ensures .0) (c .before .known-at .ensures)) (c .if1 .left)
-    ∙ ap (firstBad _) (l .before .command-count .ensures .0)
+returns c = scan-found (c .before .before .before .before .loop .inv) (c .before .before .before .loop-test .taken) (c .before .known-at .ensures ∙ ap (knownAt _) (c .before .before .field .ensures .0)) (c .if1 .left)
 
 returns-2 : tie.Need-returns-2 Inv-loop μ-loop
-returns-2 c = scan-over (c .before .loop .inv) (c .loop-test .left) ∙ ap (firstBad _) (c .before .before .command-count .ensures .0)
+returns-2 c = scan-over (c .before .loop .inv) (c .loop-test .left)
 
 pub open-guard-spec : {M : Type 1} → statement M
 open-guard-spec =
@@ -40,9 +28,7 @@ open-guard-spec =
     (tie.spec
     Inv-loop
     μ-loop
-    (λ c κs. search needs)
-    (λ c κs. search needs)
-    loop-holds
+    (λ c. scan-start _ _)
     (λ c κs. search needs)
     (λ c κs. search needs)
     (λ c. search needs)
