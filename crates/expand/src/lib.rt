@@ -142,8 +142,14 @@ fn lacked_by(r: TruthReading) -> usize
     }
 }
 
-// The variable that entry e lacks in the label of node n.
-fn lacked_at(
+// A rule of a node: whether it holds, and if not, the second place of its refusal.
+pub struct Kept {
+    pub holds: bool,
+    pub second: usize,
+}
+
+// A2 broken by entry e, a guard or the target: what it lacks in the label of node n.
+fn broken_by(
     m: &[u8],
     g: &[u8],
     n: usize,
@@ -151,45 +157,20 @@ fn lacked_at(
     values: &[i64],
     masks: &[u16],
     e: usize,
-) -> usize
-    requires { ⌜ NodeOf (now m) (now g) n ⌝ }
-    requires { ⌜ LabelSettled (now m) (now g) n (now known) (now values) ⌝ }
-    requires { ⌜ MasksOf (now m) (now masks) ⌝ }
-    requires { ⌜ IsTruth (modelOf (now m) .entries) e ⌝ }
-    ensures { λ r. ⌜ r ≡ lacked (readingOf (modelOf (now (m .entry))) (simulationOf (modelOf (now (m .entry))) (now (g .entry))) n e) ⌝ }
-{
-    let vars = graph::variable_count(m);
-    let set = node_field(m, g, n, 5);
-    lacked_by(evaluate::settled_reading(known, values, vars, masks, set, e))
-}
-
-// A rule of a node: whether it holds, and if not, the second place of its refusal.
-pub struct Kept {
-    pub holds: bool,
-    pub second: usize,
-}
-
-// A2 of a node whose guards are not in question, by what is asked of its target.
-fn target_kept(
-    m: &[u8],
-    g: &[u8],
-    n: usize,
-    known: &[u8],
-    values: &[i64],
-    masks: &[u16],
-    holds: bool,
 ) -> Kept
     requires { ⌜ NodeOf (now m) (now g) n ⌝ }
     requires { ⌜ LabelSettled (now m) (now g) n (now known) (now values) ⌝ }
     requires { ⌜ MasksOf (now m) (now masks) ⌝ }
-    ensures { λ r. ⌜ (r .holds ≡ holds) × (r .holds ≡ false → r .second ≡ lacked (readingOf (modelOf (now (m .entry))) (simulationOf (modelOf (now (m .entry))) (now (g .entry))) n (modelOf (now (m .entry)) .target))) ⌝ }
+    requires { ⌜ IsTruth (modelOf (now m) .entries) e ⌝ }
+    ensures { λ r. ⌜ (r .holds ≡ false) × (r .second ≡ lacked (readingOf (modelOf (now (m .entry))) (simulationOf (modelOf (now (m .entry))) (now (g .entry))) n e)) ⌝ }
 {
-    if holds {
-        return Kept { holds, second: 0 };
+    let vars = graph::variable_count(m);
+    let set = node_field(m, g, n, 5);
+    let second = lacked_by(evaluate::settled_reading(known, values, vars, masks, set, e));
+    Kept {
+        holds: false,
+        second,
     }
-    let target = folder::field(4, folder::body(m, 0), 0, 1);
-    let second = lacked_at(m, g, n, known, values, masks, target);
-    Kept { holds, second }
 }
 
 // A2 of an expanded node: its guards by command, then the target.
@@ -205,22 +186,16 @@ fn expanded_kept(m: &[u8], g: &[u8], n: usize, known: &[u8], values: &[i64], mas
     let c = open_guard(cs, commands, known);
     if c < commands {
         let guard = folder::field(4, cs, c, 0);
-        let second = lacked_at(m, g, n, known, values, masks, guard);
-        return Kept {
-            holds: false,
-            second,
-        };
+        return broken_by(m, g, n, known, values, masks, guard);
     }
     let target = folder::field(4, folder::body(m, 0), 0, 1);
-    target_kept(
-        m,
-        g,
-        n,
-        known,
-        values,
-        masks,
-        false_at(known, values, target),
-    )
+    if false_at(known, values, target) {
+        return Kept {
+            holds: true,
+            second: 0,
+        };
+    }
+    broken_by(m, g, n, known, values, masks, target)
 }
 
 // Row 19.
@@ -236,15 +211,9 @@ pub fn a2(m: &[u8], g: &[u8], n: usize, known: &[u8], values: &[i64], masks: &[u
     }
     if kind == TARGET {
         let target = folder::field(4, folder::body(m, 0), 0, 1);
-        return target_kept(
-            m,
-            g,
-            n,
-            known,
-            values,
-            masks,
-            reads_at(known, values, target, 1),
-        );
+        if !reads_at(known, values, target, 1) {
+            return broken_by(m, g, n, known, values, masks, target);
+        }
     }
     Kept {
         holds: true,
