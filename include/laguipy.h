@@ -41,7 +41,7 @@ extern "C" {
 #endif
 
 /* The version of this header, and of the library that comes with it. */
-#define LAGUIPY_VERSION "0.2.0"
+#define LAGUIPY_VERSION "0.3.0"
 
 /* Certainty, in units. */
 #define LAGUIPY_CERTAIN 1000000000
