@@ -3,13 +3,17 @@
 use Prim.Native.Nat.{ℕ, suc, _+_, _-_, _*_, _/_, _%_, _<_, _≤_}
 use mathlib.Core.Path.{_≡_, sym, ap, _∙_}
 use mathlib.Core.List.{List}
-use native.Mathlib.Nat.{add-sub-cancel-left, mul-le-mul-left, mul-suc, mul-div-le, div-add-mod}
+use native.Mathlib.Nat.{add-sub-cancel-left, mul-le-mul, mul-le-mul-left, mul-suc, mul-div-le, div-add-mod}
 use native.Mathlib.Omega.{arith}
 use lib.ListN.{length, take, drop, length-take, length-drop, drop-of-length-le, List·getD-eq-default}
 use lib.Seq.{take-all, take-nil, drop-length}
-use Rattle.folder.specs.Fields.{u16, u32}
+use Rattle.folder.specs.Fields.{fieldLimit, field4Limit, u16, u32}
 use Rattle.folder.specs.Contents.{startOf, lengthOf, dueStart, entryOk, EntryRight, body, countOf, field4}
 use Rattle.folder.proofs.Decides.{Decides, at-most, same, _∧also_, whenever, reworded}
+
+-- A record's start is small where its size and its number are.
+pub product-small : (a b : ℕ) → a ≤ fieldLimit → b ≤ fieldLimit → a * b ≤ field4Limit
+product-small a b p q = mul-le-mul {n₁ = a} {m₁ = b} {n₂ = fieldLimit} {m₂ = fieldLimit} p q
 
 pub entry-decided : (s : List ℕ) (k e : ℕ) → Decides (EntryRight s k e) (entryOk s k e)
 unfolding entryOk

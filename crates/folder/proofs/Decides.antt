@@ -58,6 +58,11 @@ pub both-and : (a b : Bool) → a ≡ true → b ≡ true → (a && b) ≡ true
 both-and true b p q = q
 both-and false b p q = p
 
+-- Where both fail together and the first passes, the second fails.
+pub second-fails : (a b : Bool) → a ≡ true → (a && b) ≡ false → b ≡ false
+second-fails true b p e = e
+second-fails false b p e = absurd (false≢true p)
+
 infixr 20 _∧also_
 pub _∧also_ : {P Q : Type 0} {a b : Bool} → Decides P a → Decides Q b → Decides (P × Q) (a && b)
 _∧also_ {a = a} {b = b} p q =
@@ -70,6 +75,11 @@ implies-by false b e h = absurd (false≢true h)
 by-implies : (a b : Bool) → (a ≡ true → b ≡ true) → implies a b ≡ true
 by-implies true b f = f refl
 by-implies false b f = refl
+
+-- An implication fails where its first test passes and its second fails.
+pub implies-fails : (a b : Bool) → implies a b ≡ false → (a ≡ true) × (b ≡ false)
+implies-fails true b e = (refl, e)
+implies-fails false b e = absurd (false≢true (sym e))
 
 pub whenever : {P Q : Type 0} {a b : Bool} → Decides P a → Decides Q b → Decides (P → Q) (implies a b)
 whenever {a = a} {b = b} p q = record { yes = λ e h. q .yes (implies-by a b e (p .no h)); no = λ f. by-implies a b (λ h. q .no (f (p .yes h))) }

@@ -76,6 +76,10 @@ module _ (ok : ℕ → Bool) where
   pub all-true : (n : ℕ) → all ok n ≡ true → (k : ℕ) → k < n → ok k ≡ true
   all-true n h = all-passed n (sym (eqb-true _ _ h)) (le-refl n)
 
+  -- a scan that not all places pass stops below the last
+  pub stops-below : (n : ℕ) → all ok n ≡ false → firstBad ok n < n
+  stops-below n e = ⊎-elim (λ q. absurd (false≢true (sym e ∙ eq-eqb (firstBad ok n) n q))) (λ l. l) (eq-or-lt-of-le (found n .within))
+
   -- the other way
   pub all-found : (n : ℕ) → ((k : ℕ) → k < n → ok k ≡ true) → firstBad ok n ≡ n
   all-found zero h = scan-none

@@ -1,38 +1,34 @@
 -- What the second place of a refusal says, in words: of 19 the lowest variable that a guard or the target lacks, or none; of
 -- 21 the variable whose label does not follow, or none; of every other number 0.
 -- Assumes nothing.
-use Prim.Native.Nat.{ℕ, _+_, _<_, _≤_}
-use mathlib.Core.Path.{_≡_, refl, sym, ap, _∙_, subst}
-use mathlib.Core.Logic.{_⊎_, inl, inr, ⊎-elim, _≢_}
-use mathlib.Core.Bool.{Bool, true, false, _&&_, false≢true}
-use mathlib.Core.List.{List, _++_}
+use Prim.Native.Nat.{ℕ, _<_, _≤_}
+use mathlib.Core.Path.{_≡_, refl, sym, ap, _∙_}
+use mathlib.Core.Logic.{_⊎_, ⊎-elim, _≢_}
+use mathlib.Core.Bool.{Bool, true, false, false≢true}
+use mathlib.Core.List.{List}
 use native.Mathlib.Decide.{decLt}
 use native.Mathlib.Omega.{arith}
 use borrow.Author.Tests.{lt-ltb, le-ltb, eq-eqb, eqb-true}
-use lib.Dec.{ltb, eqb}
-use Rattle.folder.specs.Pick.{pick, implies}
 use Rattle.folder.specs.Scan.{firstBad, all}
-use Rattle.folder.specs.Table.{refusal, refusalBy, allRules, firstBroken, Broken}
-use Rattle.folder.specs.declared.Cause.{Cause}
+use Rattle.folder.specs.Table.{refusal, refusalBy}
 use Rattle.folder.specs.declared.Refusal.{Refusal}
 use Rattle.folder.specs.declared.Outcome.the-variants.{Refused}
-use Rattle.folder.proofs.ScanLaws.{found, all-true, all-found}
-use Rattle.folder.proofs.Decides.{both-and}
+use Rattle.folder.proofs.ScanLaws.{found, stops-below, all-true}
+use Rattle.folder.proofs.Decides.{second-fails, implies-fails}
 use Rattle.folder.proofs.TableLaws.{Gives, each, over, given, RulesGive, each-rule, rules-end, rule-given, broken-in, first-broken}
-use Rattle.expressions.specs.Limits.{noVariable}
 use Rattle.expressions.specs.Reading.{isKnown}
 use Rattle.expressions.specs.Mentions.{lacked}
 use Rattle.expressions.specs.Right.{IsTruth}
 use Rattle.expressions.specs.declared.Truth.{Truth}
 use Rattle.expressions.specs.declared.Truth.the-variants.{True, False, Unknown}
 use Rattle.expressions.proofs.Missing.{truth-lacks}
-use Rattle.model.specs.Model.{Model, modelOf, firstRecord}
+use Rattle.model.specs.Model.{Model, modelOf}
 use Rattle.model.specs.Table.{modelRows}
 use Rattle.model.specs.Valid.{ModelRight}
 use Rattle.model.proofs.Decided.{model-asks}
 use Rattle.graph.specs.Simulation.{Simulation, simulationOf}
-use Rattle.graph.specs.Labels.{tracks, truthOf, readingOf}
-use Rattle.graph.specs.Rules.{isExpanded, resultIs, labelFollows, follows, edgeFollows, B2}
+use Rattle.graph.specs.Labels.{truthOf, readingOf}
+use Rattle.graph.specs.Rules.{isExpanded, labelFollows, follows, edgeFollows, edgesFollow, B2}
 use Rattle.graph.specs.Table.{nodeRules, ruleRows, graphRows, graphOutcome}
 use Rattle.graph.specs.Seconds.{openGuard, second19, badEdge, badBranch, successorFollows, secondOf, second21, LacksVariable, GuardsKnown, Second19, FollowsBelow, resultAt, labelAt, Second21, Told}
 use Rattle.graph.proofs.Decided.{refused-first}
@@ -78,34 +74,14 @@ module _ (M : Model) (G : Simulation) (n : ℕ) where
         go false k d = rw k (by-target _ refl (λ q. absurd (false≢true (sym k ∙ eq-eqb (G .kind n) 1 q))))
 
   -- ---- 21
-  tracked-by : (a b : Bool) → implies a b ≡ false → a ≡ true
-  tracked-by true b e = refl
-  tracked-by false b e = sym e
-
-  second-and : (a b : Bool) → a ≡ true → (a && b) ≡ false → b ≡ false
-  second-and true b p e = e
-  second-and false b p e = absurd (false≢true p)
-
-  -- A test that not all places pass stops below the last.
-  stops : (ok : ℕ → Bool) (k : ℕ) → all ok k ≡ false → firstBad ok k < k
-  stops ok k e = go (decLt (firstBad ok k) k)
-    where
-      go : Dec (firstBad ok k < k) → firstBad ok k < k
-      go (yes l) = l
-      go (no h) = absurd (false≢true (sym e ∙ eq-eqb (firstBad ok k) k (omega (arith, found ok k .within))))
-
   module _ (broken : B2 M G n ≡ false) where
     edge-there : badEdge M G n < G .edges n
     unfolding B2
-    edge-there = stops (edgeFollows M G n) (G .edges n) (go (isExpanded G n) broken)
-      where
-        go : (a : Bool) {b : Bool} → implies a b ≡ false → b ≡ false
-        go true e = e
-        go false e = absurd (false≢true (sym e))
+    edge-there = stops-below (edgeFollows M G n) (G .edges n) (implies-fails (isExpanded G n) (edgesFollow M G n) broken .1)
 
     branch-there : badBranch M G n < M .branches (G .command n (badEdge M G n))
     unfolding edgeFollows
-    branch-there = stops (successorFollows M G n (badEdge M G n)) _ (found (edgeFollows M G n) (G .edges n) .broken edge-there)
+    branch-there = stops-below (successorFollows M G n (badEdge M G n)) _ (found (edgeFollows M G n) (G .edges n) .broken edge-there)
 
     below : FollowsBelow M G n (badEdge M G n) (badBranch M G n)
     below = record {
@@ -130,12 +106,12 @@ module _ (M : Model) (G : Simulation) (n : ℕ) where
       where
         go : (b : Bool) → all result (M .variables) ≡ b → Second21 M G n (second21 M G n)
         go false e =
-            let l = stops result (M .variables) e in
+            let l = stops-below result (M .variables) e in
             rw e (Second21.by-concrete _ _ (firstBad result (M .variables)) below l (found result (M .variables) .broken l))
         go true e =
-            let l = stops label (M .variables) (second-and _ _ e not-followed) in
+            let l = stops-below label (M .variables) (second-fails _ _ e not-followed) in
             let h = found label (M .variables) in
-            rw e (Second21.by-label _ _ _ below (all-true result (M .variables) e) l (tracked-by _ _ (h .broken l)) (h .broken l) (h .before))
+            rw e (Second21.by-label _ _ _ below (all-true result (M .variables) e) l (implies-fails _ _ (h .broken l) .0) (h .broken l) (h .before))
 
 -- ---- of a whole answer
 module _ (M : Model) (G : Simulation) where

@@ -1,9 +1,4 @@
-use Prim.Native.Nat.{ℕ}
-use mathlib.Core.Path.{_≡_, sym, ap, ap₂, _∙_}
-use mathlib.Core.Bool.{Bool, true, false}
-use Rattle.folder.specs.Pick.{pick}
-use Rattle.folder.specs.Scan.{firstBad, all}
-use Rattle.expand.specs.Tests.{resultAt, labelAt, apartBy}
+use Rattle.expand.specs.Tests.{apartBy}
 use Rattle.expand.proofs.apart_by.Statement.{statement}
 use Rattle.expand.proofs.apart_by.Tie as tie
 

@@ -1,17 +1,13 @@
-use Prim.Native.Nat.{ℕ, _+_, _*_, _≤_}
+use Prim.Native.Nat.{_+_, _*_}
 use mathlib.Core.Path.{refl}
-use native.Mathlib.Nat.{mul-le-mul}
 use native.Mathlib.Omega.{arith}
-use Rattle.folder.specs.Fields.{fieldLimit}
+use Rattle.folder.proofs.ContentsLaws.{product-small}
 use borrow.Author.Needs.{needs}
 use Rattle.expand.proofs.lead_of.Statement.{statement}
 use Rattle.expand.proofs.lead_of.Tie as tie
 
-small : (a b : ℕ) → a ≤ fieldLimit → b ≤ fieldLimit → a * b ≤ fieldLimit * fieldLimit
-small a b p q = mul-le-mul {n₁ = a} {m₁ = b} {n₂ = fieldLimit} {m₂ = fieldLimit} p q
-
 mul-from-2 : tie.Need-mul-from-2
-mul-from-2 c = let s = c .before in omega (arith, small (2 + 2 * s .args .vars) (s .args .r) (omega arith) (s .pre .0 .1))
+mul-from-2 c = let s = c .before in omega (arith, product-small (2 + 2 * s .args .vars) (s .args .r) (omega arith) (s .pre .0 .1))
 
 returns : tie.Need-returns
 returns c = (refl, refl, c .u16-in .ensures .0)
