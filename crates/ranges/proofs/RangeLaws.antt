@@ -1,13 +1,17 @@
 -- A range from the ranges of the parts; ranges are in order, and within the limits their ends are small.
 -- Assumes nothing.
-use Prim.Native.Nat.{ℕ, _<_, _≤_}
+use Prim.Native.Nat.{ℕ, _<_, _≤_, _^_}
 use mathlib.Core.Path.{_≡_, refl, sym, subst, _∙_}
 use mathlib.Core.List.{List}
 use native.Mathlib.Nat.{lt-trans, le-trans, le-of-lt}
 use borrow.Author.Tests.{lt-ltb, le-ltb}
 use lib.IntN.{ℤ, pos}
+use lib.Signed.{mag}
+use mir.Syntax.{w64}
+use mir.Val.{toZ, ofZ}
 use Rattle.folder.specs.Contents.{countOf, signedField}
 use Rattle.folder.specs.Tab.{tab}
+use Rattle.folder.proofs.Signed.{called}
 use Rattle.folder.proofs.TabLaws.{length-tab, getD-tab}
 use Rattle.whole.proofs.Order.{to-⊑, from-⊑, ⊑-refl, ⊑-trans}
 use Rattle.expressions.specs.Entries.{entriesOf, numberForm}
@@ -34,6 +38,13 @@ module _ (y : List ℕ) (v : ℕ) {n : ℕ} (e : n ≡ countOf 6 y) where
   pub bound-past : n ≤ v → span (pos 0) (pos 0) ≡ boundIn y v
   unfolding boundIn
   bound-past h = rw (le-ltb v (countOf 6 y) (rw e at h)) refl
+
+-- ---- ends
+
+-- A call on two ends that are read out of ranges.
+pub of-ends : (op : ℤ → ℤ → ℤ) (a b : ℤ) {r : ℤ} → mag r < 2 ^ 63 → r ≡ op (toZ w64 (ofZ w64 a)) (toZ w64 (ofZ w64 b)) → mag a < 2 ^ 63 → mag b < 2 ^ 63
+    → toZ w64 (ofZ w64 r) ≡ op a b
+of-ends op a b ok e h l = called op ok e (record { sfits = h }) (record { sfits = l })
 
 -- ---- order
 

@@ -8,14 +8,18 @@ ghost use Rattle.folder.specs.Contents.{countOf};
 ghost use Rattle.folder.specs.Scan.{firstBad};
 ghost use Rattle.expressions.specs.Limits.{mostExpressions};
 ghost use Rattle.expressions.specs.Entries.{entriesOf};
-ghost use Rattle.expressions.specs.Ranges.{span, least, greatest, product, arithR, hull, boundIn, rangeOf, inside, limits};
+ghost use Rattle.expressions.specs.Ranges.{span, product, arithR, hull, boundIn, rangeOf, inside, limits};
 ghost use Rattle.expressions.specs.Rules.{rangeFits};
+ghost use Rattle.ranges.specs.Products.{endProduct};
 ghost use Rattle.ranges.specs.Settled.{Near, Based, Ranged, lowEnds, highEnds};
 use expressions::Arith;
 use expressions::HIGHEST;
 use expressions::LOWEST;
 use expressions::NumberForm;
 use expressions::Range;
+
+// How many end products two ranges have.
+const END_PRODUCTS: usize = 4;
 
 // The range of variable v of a variable body; past the last, 0 to 0.
 pub fn bound_at(y: &[u8], v: usize) -> Range
@@ -38,71 +42,71 @@ pub fn is_inside(low: i64, high: i64, to_low: i64, to_high: i64) -> bool
     whole::at_most(to_low, low) & whole::at_most(high, to_high)
 }
 
-fn smallest(a: i64, b: i64, c: i64, d: i64) -> i64
-    ensures { λ r. ⌜ r ≡ least a b c d ⌝ }
-{
-    whole::min(whole::min(a, b), whole::min(c, d))
-}
-
-fn largest(a: i64, b: i64, c: i64, d: i64) -> i64
-    ensures { λ r. ⌜ r ≡ greatest a b c d ⌝ }
-{
-    whole::max(whole::max(a, b), whole::max(c, d))
-}
-
-// The least and the greatest of the four end products of a to b and c to d.
-fn product_range(a: i64, b: i64, c: i64, d: i64) -> Range
-    requires { ⌜ Near (span a b) × Near (span c d) ⌝ }
-    ensures { λ r. ⌜ r ≡ product (span a b) (span c d) ⌝ }
-{
-    let p = whole::mul(a, c);
-    let q = whole::mul(a, d);
-    let r = whole::mul(b, c);
-    let s = whole::mul(b, d);
-    let low = smallest(p, q, r, s);
-    let high = largest(p, q, r, s);
-    Range { low, high }
-}
-
-// The range of an operation on numbers from a to b and from c to d.
-fn ends(k: Arith, a: i64, b: i64, c: i64, d: i64) -> Range
-    requires { ⌜ Near (span a b) × Near (span c d) ⌝ }
-    ensures { λ r. ⌜ r ≡ arithR k (span a b) (span c d) ⌝ }
-{
-    match k {
-        Arith::Add => Range {
-            low: whole::add(a, c),
-            high: whole::add(b, d),
-        },
-        Arith::Subtract => Range {
-            low: whole::sub(a, d),
-            high: whole::sub(b, c),
-        },
-        Arith::Multiply => product_range(a, b, c, d),
-        Arith::Smaller => Range {
-            low: whole::min(a, c),
-            high: whole::min(b, d),
-        },
-        Arith::Larger => Range {
-            low: whole::max(a, c),
-            high: whole::max(b, d),
-        },
-    }
-}
-
-fn arith_range(k: Arith, a: Range, b: Range) -> Range
-    requires { ⌜ Near a × Near b ⌝ }
-    ensures { λ r. ⌜ r ≡ arithR k a b ⌝ }
-{
-    ends(k, a.low, a.high, b.low, b.high)
-}
-
+// From the lower of the low ends to the higher of the high ends.
 fn hull_of(a: Range, b: Range) -> Range
     ensures { λ r. ⌜ r ≡ hull a b ⌝ }
 {
     Range {
         low: whole::min(a.low, b.low),
         high: whole::max(a.high, b.high),
+    }
+}
+
+// End product i of two ranges, in the order of document 01's definition.
+fn end_product(a: Range, b: Range, i: usize) -> i64
+    requires { ⌜ Near a × Near b ⌝ }
+    ensures { λ r. ⌜ r ≡ endProduct a b i ⌝ }
+{
+    match i {
+        0 => whole::mul(a.low, b.low),
+        1 => whole::mul(a.low, b.high),
+        2 => whole::mul(a.high, b.low),
+        _ => whole::mul(a.high, b.high),
+    }
+}
+
+// The least and the greatest of the four end products, in one pass: each widens the range of those before it.
+fn product_range(a: Range, b: Range) -> Range
+    requires { ⌜ Near a × Near b ⌝ }
+    ensures { λ r. ⌜ r ≡ product a b ⌝ }
+{
+    let first = end_product(a, b, 0);
+    let mut r = Range {
+        low: first,
+        high: first,
+    };
+    let mut i = 1;
+    while i < END_PRODUCTS {
+        let p = end_product(a, b, i);
+        r = hull_of(r, Range { low: p, high: p });
+        i += 1;
+    }
+    r
+}
+
+// The range of an operation on numbers that lie in a and in b.
+fn arith_range(k: Arith, a: Range, b: Range) -> Range
+    requires { ⌜ Near a × Near b ⌝ }
+    ensures { λ r. ⌜ r ≡ arithR k a b ⌝ }
+{
+    match k {
+        Arith::Add => Range {
+            low: whole::add(a.low, b.low),
+            high: whole::add(a.high, b.high),
+        },
+        Arith::Subtract => Range {
+            low: whole::sub(a.low, b.high),
+            high: whole::sub(a.high, b.low),
+        },
+        Arith::Multiply => product_range(a, b),
+        Arith::Smaller => Range {
+            low: whole::min(a.low, b.low),
+            high: whole::min(a.high, b.high),
+        },
+        Arith::Larger => Range {
+            low: whole::max(a.low, b.low),
+            high: whole::max(a.high, b.high),
+        },
     }
 }
 
