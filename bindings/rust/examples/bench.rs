@@ -224,6 +224,10 @@ fn main() {
     model_check(&model, 1_000);
     step(&model, &[0; MOST_VARIABLES], 0, 0, 100);
 
+    let model = generate::products::many().bytes();
+    heading("products", &model, &[]);
+    model_check(&model, 1_000);
+
     let (model, graph) = generate::pedal();
     let state = model.initial();
     let (model, graph) = (model.bytes(), graph.bytes());

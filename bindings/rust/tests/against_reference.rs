@@ -4,8 +4,10 @@
 mod generate;
 mod reference;
 
+use generate::data::ModelData;
 use generate::large::Large;
 use generate::limits::limits;
+use generate::products::{assigned, many, products, spans};
 use generate::*;
 use laguipy::{Refusal, LAST_REFUSAL, MOST_NODES, MOST_STEPS, MOST_VARIABLES, SLOTS};
 use std::collections::HashMap;
@@ -228,6 +230,26 @@ fn inputs_at_the_limits() {
         let numbers = limit.answers.map(|answer| answer.map_or(0, |(number, ..)| number));
         assert_eq!(compare(&limit.input), numbers, "{}", limit.input.name);
     }
+}
+
+fn compare_model(model: &ModelData, answer: Result<(), Refusal>) {
+    let bytes = model.bytes();
+    assert_eq!(laguipy::model_check(&bytes), answer, "{model:?}");
+    assert_eq!(reference::model_check(&bytes), answer, "{model:?}");
+}
+
+/// Every pair of spans near 0: a product fits the span of all products of two numbers,
+/// and none that lacks the least or the greatest.
+#[test]
+fn ranges_of_products() {
+    let refused = Err(Refusal { number: 10, place: 0, second: 0 });
+    for factors in spans(4).flat_map(|a| spans(4).map(move |b| [a, b])) {
+        let [low, high] = products(factors[0], factors[1]);
+        compare_model(&assigned(factors, [low, high]), Ok(()));
+        compare_model(&assigned(factors, [low + 1, high.max(low + 1)]), refused);
+        compare_model(&assigned(factors, [low.min(high - 1), high - 1]), refused);
+    }
+    compare_model(&many(), Ok(()));
 }
 
 #[test]

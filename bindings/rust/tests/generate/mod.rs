@@ -11,6 +11,7 @@ pub mod large;
 pub mod limits;
 pub mod models;
 pub mod mutate;
+pub mod products;
 pub mod random;
 pub mod seconds;
 pub mod states;
