@@ -1,4 +1,4 @@
 pub mod RangeLaws
 pub mod RowLaws
-pub mod ProductLaws
 mod FillLaws
+mod ProductLaws
