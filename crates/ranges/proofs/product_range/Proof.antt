@@ -1,4 +1,5 @@
 use Prim.Native.Nat.{_-_}
+use native.Mathlib.Omega.{arith}
 use mathlib.Core.Path.{_∙_}
 use Rattle.folder.proofs.Signed.{back}
 use Rattle.ranges.specs.Products.{endProducts}
@@ -19,7 +20,7 @@ loop-holds c = reach-start (back (c .end-product .ok) ∙ c .end-product .ensure
 loop-again : tie.Need-loop-again Inv-loop μ-loop
 loop-again c =
     let t = c .before .before in
-    reach-next (t .before .loop .inv) (t .loop-test .taken) (back (c .before .end-product2 .ok) ∙ c .before .end-product2 .ensures) (c .hull-of .ensures)
+    reach-next (t .before .loop .inv) (omega (arith, t .loop-test .taken)) (back (c .before .end-product2 .ok) ∙ c .before .end-product2 .ensures) (c .hull-of .ensures)
 
 returns : tie.Need-returns Inv-loop μ-loop
 returns c = reach-over (c .before .loop .inv) (c .loop-test .left)
