@@ -52,7 +52,7 @@ fn hull_of(a: Range, b: Range) -> Range
     }
 }
 
-// End product i of two ranges, in the order of document 01's definition.
+// End product i of two ranges, in the order of `product`.
 fn end_product(a: Range, b: Range, i: usize) -> i64
     requires { ⌜ Near a × Near b ⌝ }
     ensures { λ r. ⌜ r ≡ endProduct a b i ⌝ }

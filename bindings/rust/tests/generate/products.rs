@@ -23,10 +23,10 @@ pub fn assigned([a, b]: [Span; 2], product: Span) -> ModelData {
         target: 3,
         variables: [a, b, product].map(|[low, high]| [low, high, low]).to_vec(),
         entries: vec![
-            [1, 0, 0, 0], // 0: a
-            [1, 1, 0, 0], // 1: b
-            [4, 0, 1, 0], // 2: a × b
-            [14, 0, 0, 0],
+            [1, 0, 0, 0],  // 0: a
+            [1, 1, 0, 0],  // 1: b
+            [4, 0, 1, 0],  // 2: a × b
+            [14, 0, 0, 0], // 3: true
         ],
         commands: vec![[3, 1]],
         branches: vec![vec![1, 0, 1, 2]],

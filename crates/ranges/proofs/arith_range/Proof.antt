@@ -1,4 +1,4 @@
-use mathlib.Core.Path.{_∙_, ap₂}
+use mathlib.Core.Path.{ap₂}
 use lib.IntN.{_+ℤ_, _-ℤ_}
 use Rattle.whole.specs.Order.{minZ, maxZ}
 use Rattle.whole.proofs.Fits.{add-near, sub-near}
