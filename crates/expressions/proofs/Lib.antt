@@ -10,3 +10,7 @@ pub mod Small
 pub mod Bits
 pub mod Mentions
 pub mod Missing
+pub mod Widths
+pub mod Digits
+pub mod Combinations
+pub mod States

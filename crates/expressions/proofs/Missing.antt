@@ -30,7 +30,7 @@ module _ (n m t : ℕ) where
   tracked-or-not-there v = not (isFree m t v)
 
   -- No variable of n is in m and not in t.
-  abbrev None : Type 0
+  abbrev pub None : Type 0
   None = (v : ℕ) → v < n → isFree m t v ≡ false
 
   lowest : (None → ⊥) → Lowest n m t (missing n m t)
@@ -80,10 +80,10 @@ module _ (x : Entries) (n : ℕ) (right : (e : ℕ) → e < x .count → EntryRi
         go true q = (getD v i (pos 0), rw (tracked (mentions x e) t i (none i l) q) refl)
         go false q = (pos 0, refl)
 
-    number-told : IsNumber x e → (z : ℤ) × (readNumber x (lookIn t v) e ≡ Known z)
+    pub number-told : IsNumber x e → (z : ℤ) × (readNumber x (lookIn t v) e ≡ Known z)
     number-told s = let w = whole-number x n right rest rest-told e s in (w .0, number-reads x (lookIn t v) rest e rest-agrees ∙ w .1)
 
-    truth-told : IsTruth x e → (b : Bool) × (readTruth x (lookIn t v) e ≡ knownTruth b)
+    pub truth-told : IsTruth x e → (b : Bool) × (readTruth x (lookIn t v) e ≡ knownTruth b)
     truth-told s = let w = whole-truth x n right rest rest-told e s in (w .0, truth-reads x (lookIn t v) rest e rest-agrees ∙ w .1)
 
   pub number-lacks : IsNumber x e → readNumber x (lookIn t v) e ≡ Open → Lowest n (mentions x e) t (missing n (mentions x e) t)

@@ -8,5 +8,7 @@ pub mod Meaning
 pub mod Reading
 pub mod Mentions
 pub mod Ranges
+pub mod Combinations
+pub mod States
 pub mod Rules
 pub mod Right

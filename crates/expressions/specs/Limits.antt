@@ -1,4 +1,4 @@
--- Document 01's limits that reading expressions stands on. (model/specs/Limits.antt has all of a model's.)
+-- The limits that reading expressions stands on. (model/specs/Limits.antt has all of a model's.)
 -- Assumes nothing.
 use Prim.Native.Nat.{ℕ, _-_, _^_}
 
@@ -15,3 +15,7 @@ noVariable = 65535
 -- The tracked set that has every variable.
 abbrev pub allTracked : ℕ
 allTracked = 2 ^ mostVariables - 1
+
+-- Document 02, 2.4: how many combinations a reading looks at.
+abbrev pub mostCombinations : ℕ
+mostCombinations = 4096

@@ -14,6 +14,9 @@ pub const MOST_EXPRESSIONS: usize = 512;
 // What stands for a variable where none is concerned.
 pub const NO_VARIABLE: usize = 65535;
 
+// How many combinations of values a reading looks at (document 02, 2.4).
+pub const MOST_COMBINATIONS: usize = 4096;
+
 pub const DEEPEST: usize = 12;
 
 pub const LOWEST: i64 = -1000000;

@@ -20,13 +20,13 @@ mag-cond false m n k h l = l
 mag-subℕ : (a b : ℕ) → mag (subℕ a b) ≤ a + b
 mag-subℕ a b = mag-cond (ltb a b) (b - suc a) (a - b) (a + b) (omega arith) (omega arith)
 
-mag-add : (a b : ℤ) → mag (a +ℤ b) ≤ suc (mag a + mag b)
+pub mag-add : (a b : ℤ) → mag (a +ℤ b) ≤ suc (mag a + mag b)
 mag-add (pos a) (pos b) = omega arith
 mag-add (pos a) (negsuc b) = omega (arith, mag-subℕ a (suc b))
 mag-add (negsuc a) (pos b) = omega (arith, mag-subℕ b (suc a))
 mag-add (negsuc a) (negsuc b) = omega arith
 
-mag-negℤ : (a : ℤ) → mag (negℤ a) ≤ suc (mag a)
+pub mag-negℤ : (a : ℤ) → mag (negℤ a) ≤ suc (mag a)
 mag-negℤ (pos zero) = zero-le
 mag-negℤ (pos (suc n)) = omega arith
 mag-negℤ (negsuc n) = le-refl (suc n)
