@@ -56,7 +56,7 @@ module _ (x : Entries) (variables : ℕ) (bound : ℕ → Range) (formed : Forme
   unfolding depthOf numberAt truthAt numberForm truthForm
   past-depth e l = rw (le-ltb e (x .count) l)
 
-  narrow : (e : ℕ) → Inside (rangeOf x bound e) limits
+  pub narrow : (e : ℕ) → Inside (rangeOf x bound e) limits
   narrow e = go (decLt e (x .count))
     where
       go : Dec (e < x .count) → Inside (rangeOf x bound e) limits

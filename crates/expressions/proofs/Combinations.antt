@@ -53,11 +53,11 @@ module _ (L : Label) (m : ℕ) where
   unfolding combination
   value-there j v l = getD-tab (pos 0) (L .variables) (valueIn L m j) v l
 
-  value-tracked : (j v : ℕ) → hasBit (L .tracked) v ≡ true → valueIn L m j v ≡ getD (L .values) v (pos 0)
+  pub value-tracked : (j v : ℕ) → hasBit (L .tracked) v ≡ true → valueIn L m j v ≡ getD (L .values) v (pos 0)
   unfolding valueIn
   value-tracked j v t = rw t refl
 
-  value-free : (j v : ℕ) → hasBit (L .tracked) v ≡ false → valueIn L m j v ≡ L .bound v .low +ℤ pos (digit L m j v)
+  pub value-free : (j v : ℕ) → hasBit (L .tracked) v ≡ false → valueIn L m j v ≡ L .bound v .low +ℤ pos (digit L m j v)
   unfolding valueIn
   value-free j v t = rw t refl
 

@@ -1,8 +1,9 @@
 -- A number lies in its range in every state whose variables lie in theirs.
 -- Assumes nothing.
-use Prim.Native.Nat.{ℕ, suc, _<_}
-use mathlib.Core.Path.{_≡_}
+use Prim.Native.Nat.{ℕ, suc, _<_, _≤_}
+use mathlib.Core.Path.{_≡_, refl}
 use mathlib.Core.Bool.{Bool}
+use mathlib.Core.List.{List}
 use native.Mathlib.Decide.{decLt}
 use native.Mathlib.Omega.{arith}
 use borrow.Author.Tests.{lt-ltb, le-ltb}
@@ -10,12 +11,13 @@ use lib.ListN.{length, List·getD-eq-default}
 use lib.IntN.{ℤ, pos, _*ℤ_}
 use lib.Signed.{_≤ℤ_}
 use Rattle.folder.specs.Pick.{pick}
+use Rattle.folder.specs.Contents.{countOf, signedField}
 use Rattle.folder.proofs.PickLaws.{pick-all}
 use Rattle.expressions.specs.Entries.{Entries}
 use Rattle.whole.specs.Order.{minZ, maxZ}
 use Rattle.expressions.specs.Operations.{arithZ}
 use Rattle.expressions.specs.Meaning.{State, valueOf, meaning, numberIn}
-use Rattle.expressions.specs.Ranges.{span, least, greatest, product, arithR, hull, boundOf, ranging, rangeOf}
+use Rattle.expressions.specs.Ranges.{span, least, greatest, product, arithR, hull, boundOf, boundIn, ranging, rangeOf}
 use Rattle.expressions.specs.Right.{Inside}
 use Rattle.expressions.specs.declared.Arith.{Arith}
 use Rattle.expressions.specs.declared.Arith.the-variants.{Add, Subtract, Multiply, Smaller, Larger}
@@ -90,6 +92,16 @@ in-bound-of n low high s e h v = go (decLt v n)
     go : Dec (v < n) → In (boundOf n low high v) (valueOf s v)
     go (yes l) = rw (lt-ltb v n l) (h v l)
     go (no g) = rw (le-ltb v n (omega arith), List·getD-eq-default s (pos 0) {n = v} (omega arith)) (in-one (pos 0))
+
+-- The range of a variable of a body.
+module _ (y : List ℕ) (v : ℕ) {n : ℕ} (e : n ≡ countOf 6 y) where
+  pub bound-here : v < n → span (signedField 6 y v 0) (signedField 6 y v 1) ≡ boundIn y v
+  unfolding boundIn
+  bound-here h = rw (lt-ltb v (countOf 6 y) (rw e at h)) refl
+
+  pub bound-past : n ≤ v → span (pos 0) (pos 0) ≡ boundIn y v
+  unfolding boundIn
+  bound-past h = rw (le-ltb v (countOf 6 y) (rw e at h)) refl
 
 -- ---- each entry
 

@@ -3,6 +3,7 @@
 use Prim.Native.Nat.{ℕ, suc, _+_, _-_, _≤_, _<_, zero-le}
 use mathlib.Core.Path.{_≡_, refl, sym, ap, _∙_}
 use mathlib.Core.List.{List, _++_, append-assoc, append-nil}
+use native.Mathlib.Nat.{le-refl}
 use native.Mathlib.Decide.{decLt}
 use native.Mathlib.Numerals.{add-one}
 use native.Mathlib.Omega.{arith}
@@ -86,6 +87,10 @@ module _ {A : Type 0} where
       long = length-set row i z ∙ h .long;
       is = fill-more f row₀ (h .is) e (omega arith);
     }
+
+    -- What is ahead is as it was.
+    pub filled-ahead : (d : A) → getD row i d ≡ getD row₀ i d
+    filled-ahead d = ap (λ (l : List A). getD l i d) (h .is) ∙ getD-kept d i f row₀ i (le-refl i)
 
     pub fill-over : {k : ℕ} → n ≤ i → n ≡ k → row ≡ fill k f row₀
     fill-over {k} l e =

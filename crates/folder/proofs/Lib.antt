@@ -3,6 +3,7 @@ pub mod Decides
 pub mod ScanLaws
 pub mod TabLaws
 pub mod FillLaws
+pub mod ListLaws
 pub mod TableLaws
 pub mod RuleLaws
 pub mod ContentsLaws

@@ -98,7 +98,7 @@ pub fn fill_mentions(x: &[u8], masks: &mut [u16])
 }
 
 // Variable v is in the set m of those mentioned, and not in the set t of those tracked.
-fn is_free(m: usize, t: usize, v: usize) -> bool
+pub fn is_free(m: usize, t: usize, v: usize) -> bool
     ensures { λ r. ⌜ r ≡ isFree m t v ⌝ }
 {
     expressions::has_bit(m, v) & !expressions::has_bit(t, v)

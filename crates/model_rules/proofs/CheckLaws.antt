@@ -24,7 +24,7 @@ use Rattle.expressions.specs.Rules.{entryFits, rangeFits}
 use Rattle.expressions.proofs.Decided.{entry-decided}
 use Rattle.expressions.proofs.Levels.{lower}
 use Rattle.ranges.specs.Settled.{Ordered, Based, lowEnds, highEnds}
-use Rattle.ranges.proofs.RangeLaws.{bound-here, bound-past}
+use Rattle.expressions.proofs.Interval.{bound-here, bound-past}
 use Rattle.ranges.proofs.RowLaws.{settled}
 use Rattle.model_rules.specs.Bodies.{Held}
 use Rattle.model.specs.Layout.{variableCount}

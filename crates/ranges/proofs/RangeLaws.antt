@@ -1,10 +1,9 @@
 -- A range from the ranges of the parts; ranges are in order, and within the limits their ends are small.
 -- Assumes nothing.
-use Prim.Native.Nat.{ℕ, _<_, _≤_, _^_}
+use Prim.Native.Nat.{ℕ, _<_, _^_}
 use mathlib.Core.Path.{_≡_, refl, sym, subst, _∙_}
 use mathlib.Core.List.{List}
 use native.Mathlib.Nat.{lt-trans, le-trans, le-of-lt}
-use borrow.Author.Tests.{lt-ltb, le-ltb}
 use lib.IntN.{ℤ, pos}
 use lib.Signed.{mag}
 use mir.Syntax.{w64}
@@ -22,22 +21,11 @@ use Rattle.expressions.specs.Ranges.{span, ranging, boundIn, rangeOf, limits}
 use Rattle.expressions.specs.Right.{Inside}
 use Rattle.expressions.specs.declared.NumberForm.{NumberForm}
 use Rattle.expressions.specs.declared.Range.{Range}
-use Rattle.expressions.proofs.Interval.{In, in-bound-of, in-range}
+use Rattle.expressions.proofs.Interval.{In, in-bound-of, in-range, bound-here}
 use Rattle.expressions.proofs.Levels.{equal, number-settled}
 use Rattle.expressions.proofs.Related.{number-step}
 use Rattle.expressions.proofs.Small.{small}
 use Rattle.ranges.specs.Settled.{Ordered, Near, Based, rangeIn, Ranged}
-
--- ---- the range of a variable
-
-module _ (y : List ℕ) (v : ℕ) {n : ℕ} (e : n ≡ countOf 6 y) where
-  pub bound-here : v < n → span (signedField 6 y v 0) (signedField 6 y v 1) ≡ boundIn y v
-  unfolding boundIn
-  bound-here h = rw (lt-ltb v (countOf 6 y) (rw e at h)) refl
-
-  pub bound-past : n ≤ v → span (pos 0) (pos 0) ≡ boundIn y v
-  unfolding boundIn
-  bound-past h = rw (le-ltb v (countOf 6 y) (rw e at h)) refl
 
 -- ---- ends
 

@@ -1,13 +1,14 @@
 -- Sums, differences and products of numbers at most `farthest` from 0 fit 64 bits.
 -- Assumes nothing.
 use mathlib.Core.Path.{_≡_}
-use mathlib.Core.Bool.{Bool, true, false, cond}
+use mathlib.Core.Bool.{Bool, true, false, cond, false≢true}
 use Prim.Native.Nat.{ℕ, zero, suc, _+_, _-_, _*_, _≤_, zero-le}
 use native.Mathlib.Nat.{le-refl, le-trans, le-suc, mul-le-mul, lt-of-le-of-lt}
 use native.Mathlib.Omega.{arith}
+use borrow.Author.Tests.{ltb-true}
 use lib.Dec.{ltb, lit<}
 use lib.IntN.{ℤ, pos, negsuc, negℤ, subℕ, _+ℤ_, _-ℤ_, _*ℤ_}
-use lib.Signed.{mag}
+use lib.Signed.{mag, ltZ}
 use mir.Syntax.{w64}
 use mir.Val.{SFits, toZ, ofZ}
 use Rattle.folder.proofs.Signed.{back}
@@ -50,7 +51,13 @@ sub-fits a b h l = record { sfits = omega (arith, mag-add a (negℤ b), mag-neg�
 mul-fits : (a b : ℤ) → mag a ≤ farthest → mag b ≤ farthest → SFits w64 (a *ℤ b)
 mul-fits a b h l = record { sfits = lt-of-le-of-lt (le-trans (mag-mul a b) (mul-le-mul {n₂ = suc farthest} {m₂ = suc farthest} (omega arith) (omega arith))) (lit< tt) }
 
--- The same of arguments that are read back from their bits.
+-- What is below a number that fits has room for one more.
+pub up-fits : (a b : ℤ) → SFits w64 a → SFits w64 b → ltZ a b ≡ true → SFits w64 (a +ℤ pos 1)
+up-fits (pos a) (pos b) h l e = record { sfits = omega (arith, ltb-true a b e, l .sfits) }
+up-fits (pos a) (negsuc b) h l e = absurd (false≢true e)
+up-fits (negsuc a) b h l e = record { sfits = lt-of-le-of-lt (mag-cond (ltb 1 (suc a)) (suc a - 2) (1 - suc a) a (omega arith) (omega arith)) (h .sfits) }
+
+-- Sums, differences and products of arguments that are read back from their bits.
 small-back : (z : ℤ) → mag z ≤ farthest → toZ w64 (ofZ w64 z) ≡ z
 small-back z h = back (omega arith)
 

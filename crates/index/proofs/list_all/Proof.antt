@@ -6,7 +6,7 @@ use borrow.Author.Needs.{needs}
 use lib.ListN.{length}
 use Rattle.folder.specs.Contents.{countOf}
 use Rattle.index.specs.Ready.{nodesIn, listedIn, Seen}
-use Rattle.index.proofs.ListLaws.{Listed, list-start, list-room, list-next, list-count, list-over}
+use Rattle.folder.proofs.ListLaws.{Listed, list-start, list-room, list-next, list-count, list-over}
 use Rattle.index.proofs.list_all.Statement.{statement}
 use Rattle.index.proofs.list_all.Tie as tie
 

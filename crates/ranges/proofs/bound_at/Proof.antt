@@ -1,7 +1,7 @@
 use mathlib.Core.Path.{_∙_, ap₂}
 use Rattle.folder.proofs.Signed.{back}
 use Rattle.expressions.specs.Ranges.{span}
-use Rattle.ranges.proofs.RangeLaws.{bound-here, bound-past}
+use Rattle.expressions.proofs.Interval.{bound-here, bound-past}
 use borrow.Author.Needs.{needs}
 use Rattle.ranges.proofs.bound_at.Statement.{statement}
 use Rattle.ranges.proofs.bound_at.Tie as tie

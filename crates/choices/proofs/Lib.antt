@@ -1,0 +1,4 @@
+pub mod Grown
+pub mod Carry
+pub mod Steps
+pub mod Moving

@@ -1,0 +1,120 @@
+-- What an entry is in a state, from a row that has what its parts are.
+-- Assumes nothing.
+use Prim.Native.Nat.{ℕ, _<_, _≤_}
+use mathlib.Core.Path.{_≡_, refl, sym, ap, _∙_}
+use mathlib.Core.Bool.{Bool, true, false}
+use mathlib.Core.List.{List}
+use native.Mathlib.Decide.{decLt}
+use native.Mathlib.Omega.{arith}
+use borrow.Author.Tests.{not-true, le-ltb}
+use lib.ListN.{getD, length}
+use lib.IntN.{ℤ, pos}
+use lib.Signed.{mag}
+use Rattle.folder.specs.Pick.{pick}
+use Rattle.folder.specs.Tab.{fill}
+use Rattle.folder.proofs.FillLaws.{getD-filled}
+use Rattle.folder.proofs.Decides.{unless}
+use Rattle.whole.specs.Limits.{farthest}
+use Rattle.whole.specs.Order.{eqZ}
+use Rattle.expressions.specs.Entries.{Entries, numberForm, truthForm, isNumber}
+use Rattle.expressions.specs.Levels.{numberStep, truthStep, numberAt, truthAt}
+use Rattle.expressions.specs.Meaning.{State, meaning, numberIn, truthIn}
+use Rattle.expressions.specs.Parts.{EachN, EachT, Lower}
+use Rattle.expressions.specs.Right.{IsNumber, IsTruth, NumberPart, TruthPart}
+use Rattle.expressions.specs.declared.NumberForm.{NumberForm}
+use Rattle.expressions.specs.declared.NumberForm.the-variants.{Binary, If}
+use Rattle.expressions.specs.declared.TruthForm.{TruthForm}
+use Rattle.expressions.specs.declared.Arith.{Arith}
+use Rattle.expressions.proofs.Decided.{number-decided}
+use Rattle.expressions.proofs.Interval.{In, in-range}
+use Rattle.expressions.proofs.Levels.{equal, each-number, each-truth, lower, number-settled, truth-settled}
+use Rattle.expressions.proofs.Parts.{both-number, both-truth, map-number, map-truth}
+use Rattle.expressions.proofs.Related.{number-step, truth-step}
+use Rattle.expressions.proofs.Small.{small}
+use Rattle.evaluate.specs.Formed.{Grounded}
+use Rattle.evaluate.proofs.Readable.{narrow}
+use Rattle.states.specs.Stated.{truthNumber, entryIn, HasEntry, Parted}
+
+-- A truth read back from its number.
+pub truth-back : (b : Bool) → eqZ (truthNumber b) (pos 1) ≡ b
+unfolding eqZ
+truth-back true = refl
+truth-back false = refl
+
+module _ (x : Entries) (s : State) where
+  pub entry-number : (e : ℕ) → IsNumber x e → entryIn x s e ≡ numberIn x s e
+  unfolding entryIn
+  entry-number e i = rw (number-decided x e .no i)
+
+  pub entry-truth : (e : ℕ) → IsTruth x e → entryIn x s e ≡ truthNumber (truthIn x s e)
+  unfolding entryIn
+  entry-truth e i = rw (not-true (isNumber x e) (unless (number-decided x e) .no (λ n. omega arith)))
+
+  module _ (grounded : Grounded x s) where
+    pub number-small : (e : ℕ) → mag (numberIn x s e) ≤ farthest
+    number-small e =
+        small (in-range x (grounded .bound) s (λ i. record { low = grounded .low i; high = grounded .high i }) e) (narrow x (grounded .variables) (grounded .bound) (grounded .formed) e)
+
+    module _ (row : List ℤ) (e : ℕ) (parted : Parted x s row e) where
+      parts-lower : Lower x
+      parts-lower = lower x (grounded .variables) (grounded .formed .right)
+
+      -- A part is lower, of its sort, and stands in the row.
+      abbrev PartN : ℕ → Type 0
+      PartN p = HasEntry x s row p × NumberPart x e p
+
+      abbrev PartT : ℕ → Type 0
+      PartT p = HasEntry x s row p × TruthPart x e p
+
+      number-parts : EachN PartN PartT (numberForm x e)
+      number-parts = both-number (HasEntry x s row) (HasEntry x s row) (NumberPart x e) (TruthPart x e) (numberForm x e) (parted .number) (each-number x (grounded .variables) e (λ p h. h) (λ p h. h) (λ l. grounded .formed .right e l .form))
+
+      truth-parts : EachT PartN PartT (truthForm x e)
+      truth-parts = both-truth (HasEntry x s row) (HasEntry x s row) (NumberPart x e) (TruthPart x e) (truthForm x e) (parted .truth) (each-truth x (grounded .variables) e (λ p h. h) (λ p h. h) (λ l. grounded .formed .right e l .form))
+
+      abbrev num : ℕ → ℤ
+      num p = getD row p (pos 0)
+
+      abbrev tru : ℕ → Bool
+      tru p = eqZ (getD row p (pos 0)) (pos 1)
+
+      part-number : (p : ℕ) → PartN p → num p ≡ numberAt (meaning s) x e p
+      part-number p h = h .0 ∙ entry-number p (h .1 .1) ∙ sym (number-settled (meaning s) x parts-lower e p (h .1 .0))
+
+      part-truth : (p : ℕ) → PartT p → tru p ≡ truthAt (meaning s) x e p
+      part-truth p h =
+          ap (λ (z : ℤ). eqZ z (pos 1)) (h .0 ∙ entry-truth p (h .1 .1)) ∙ truth-back (truthIn x s p) ∙ sym (truth-settled (meaning s) x parts-lower e p (h .1 .0))
+
+      -- f is the entry's form.
+      pub number-from : {g : NumberForm} (f : NumberForm) → g ≡ numberForm x e → g ≡ f → numberStep (meaning s) num tru f ≡ numberIn x s e
+      unfolding numberAt
+      number-from f l k = rw (← k, l) (number-step (meaning s) (meaning s) _≡_ _≡_ (equal (meaning s)) part-number part-truth (numberForm x e) number-parts)
+
+      pub truth-from : {g : TruthForm} (f : TruthForm) → g ≡ truthForm x e → g ≡ f → truthStep (meaning s) num tru f ≡ truthIn x s e
+      unfolding truthAt
+      truth-from f l k = rw (← k, l) (truth-step (meaning s) (meaning s) _≡_ _≡_ (equal (meaning s)) part-number part-truth (truthForm x e) truth-parts)
+
+      module _ {g : NumberForm} (c p q : ℕ) (l : g ≡ numberForm x e) (f : g ≡ If c p q) {t : Bool} (h : t ≡ tru c) where
+        pub if-taken : t ≡ true → {a : ℤ} → a ≡ num p → a ≡ numberIn x s e
+        if-taken k r = r ∙ ap (λ (b : Bool). pick b (num p) (num q)) (sym (sym h ∙ k)) ∙ number-from (If c p q) l f
+
+        pub if-left : t ≡ false → {a : ℤ} → a ≡ num q → a ≡ numberIn x s e
+        if-left k r = r ∙ ap (λ (b : Bool). pick b (num p) (num q)) (sym (sym h ∙ k)) ∙ number-from (If c p q) l f
+
+      part-small : (p : ℕ) → PartN p → {a : ℤ} → a ≡ num p → mag a ≤ farthest
+      part-small p h q = rw (q ∙ h .0 ∙ entry-number p (h .1 .1)) (number-small p)
+
+      pub parts-small : {g : NumberForm} (k : Arith) (p q : ℕ) → g ≡ numberForm x e → g ≡ Binary k p q → {a b : ℤ} → a ≡ num p → b ≡ num q → (mag a ≤ farthest) × (mag b ≤ farthest)
+      parts-small k p q l f m n = let h = rw (sym l ∙ f) at number-parts in (part-small p (h .0) m, part-small q (h .1) n)
+
+-- A row filled as far as e has the parts of entry e.
+module _ (x : Entries) (low : Lower x) (s : State) (row : List ℤ) (e : ℕ) (filled : (p : ℕ) → p < e → HasEntry x s row p) where
+  pub parted-below : Parted x s row e
+  parted-below = record {
+    number = map-number filled filled (numberForm x e) (low .number e);
+    truth = map-truth filled filled (truthForm x e) (low .truth e);
+  }
+
+pub filled-below : (x : Entries) (s : State) → Grounded x s → (row₀ : List ℤ) {e : ℕ} {row : List ℤ} → row ≡ fill e (entryIn x s) row₀ → Parted x s row e
+filled-below x s g row₀ {e} {row} h =
+    parted-below x (lower x (g .variables) (g .formed .right)) s row e (λ p l. ap (λ (r : List ℤ). getD r p (pos 0)) h ∙ getD-filled (pos 0) e (entryIn x s) row₀ p l)

@@ -1,0 +1,3 @@
+pub mod Stated
+pub mod Needed
+pub mod Read
