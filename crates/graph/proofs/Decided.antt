@@ -34,7 +34,7 @@ use Rattle.model.specs.Model.{Model, modelOf, firstRecord}
 use Rattle.model.specs.Chances.{mdp}
 use Rattle.graph.specs.Limits.{leastBytes, mostBytes, mostNodes, units, mostSteps}
 use Rattle.graph.specs.Simulation.{Simulation, bodies, nodeSize, nodeCount, simulationOf, graph}
-use Rattle.graph.specs.Labels.{tracks, concreteState, numberOf, truthOf}
+use Rattle.graph.specs.Labels.{Readings, tracks, concreteState, numberOf, truthOf, byStates}
 use Rattle.graph.specs.Rules.{bytesFit, nodesFit, headFits, valuesFit, nodeFits, edgeFits, edgesFit, rootFits, A1, A2, enabledIn, B1, resultIs, labelFollows, follows, edgeFollows, B2, C3, C1, C2, valueRule}
 use Rattle.graph.specs.Table.{folderRows, contentRows, firstRows, nodeRules, ruleRows, graphRows, graphOutcome}
 use Rattle.model.specs.Table.{modelRows}
@@ -79,6 +79,9 @@ nodes-decided M g =
     (same (length (body g 0) % nodeSize (M .variables)) 0 ∧also at-most 1 (nodeCount M g)) ∧also at-most (nodeCount M g) mostNodes
 
 module _ (M : Model) (G : Simulation) where
+  abbrev R : Readings
+  R = byStates M G
+
   head-decided : (n : ℕ)
       → Decides (((G .kind n ≤ 3) × (G .value n ≤ units)) × ((G .kind n ≢ 2 → G .cover n ≡ 0) × (G .kind n ≢ 1 → G .edges n ≡ 0))) (headFits M G n)
   unfolding headFits
@@ -134,7 +137,7 @@ module _ (M : Model) (G : Simulation) where
   unfolding A1
   a1-decided n = everywhere (M .variables) (λ v l. whenever (passes (tracks G n v)) (equal-decided (G .label n v) (G .concrete n v)))
 
-  pub a2-decided : (n : ℕ) → Decides (RightA2 M G n) (A2 M G n)
+  pub a2-decided : (n : ℕ) → Decides (RightA2 M G R n) (A2 M G n)
   unfolding A2
   a2-decided n = reworded
       (λ h. record { guards = λ k. h .0 k .0; no-target = λ k. h .0 k .1; target = h .1 })
@@ -143,7 +146,7 @@ module _ (M : Model) (G : Simulation) where
       (everywhere (M .commands) (λ c l. known-decided (truthOf M G n (M .guard c))) ∧also false-decided (truthOf M G n (M .target)))
       ∧also whenever (same (G .kind n) 3) (true-decided (truthOf M G n (M .target))))
 
-  pub b1-decided : (n : ℕ) → Decides (RightB1 M G n) (B1 M G n)
+  pub b1-decided : (n : ℕ) → Decides (RightB1 M G R n) (B1 M G n)
   unfolding B1
   b1-decided n = whenever (same (G .kind n) 1) (same-lists (tab (G .edges n) (G .command n)) (passing (M .commands) (enabledIn M G n)))
 
@@ -155,18 +158,18 @@ module _ (M : Model) (G : Simulation) where
   unfolding labelFollows
   label-decided n r s v = whenever (passes (tracks G s v)) (reads-decided (numberOf M G n (M .assigned r v)) (G .label s v))
 
-  follows-decided : (n e b : ℕ) → Decides (Follows M G n e b) (follows M G n (firstRecord M (G .command n e) + b) (G .successor n e b))
+  follows-decided : (n e b : ℕ) → Decides (Follows M G R n e b) (follows M G n (firstRecord M (G .command n e) + b) (G .successor n e b))
   unfolding follows
   follows-decided n e b =
       reworded (λ h. record { concrete = h .0; label = h .1 }) (λ r. (r .concrete, r .label))
       (everywhere (M .variables) (λ v l. result-decided n (firstRecord M (G .command n e) + b) (G .successor n e b) v)
       ∧also everywhere (M .variables) (λ v l. label-decided n (firstRecord M (G .command n e) + b) (G .successor n e b) v))
 
-  edge-follows : (n e : ℕ) → Decides ((b : ℕ) → b < M .branches (G .command n e) → Follows M G n e b) (edgeFollows M G n e)
+  edge-follows : (n e : ℕ) → Decides ((b : ℕ) → b < M .branches (G .command n e) → Follows M G R n e b) (edgeFollows M G n e)
   unfolding edgeFollows
   edge-follows n e = everywhere (M .branches (G .command n e)) (λ b l. follows-decided n e b)
 
-  pub b2-decided : (n : ℕ) → Decides (RightB2 M G n) (B2 M G n)
+  pub b2-decided : (n : ℕ) → Decides (RightB2 M G R n) (B2 M G n)
   unfolding B2
   b2-decided n = whenever (same (G .kind n) 1) (everywhere (G .edges n) (λ e l. edge-follows n e))
 
@@ -195,7 +198,7 @@ module _ (M : Model) (G : Simulation) where
       ∧also whenever (same (G .kind n) 2) (at-most (value (G .cover n)) (value n)))
 
   rules-decided : (n : ℕ)
-      → Decides (RightA1 M G n × (RightA2 M G n × (RightB1 M G n × (RightB2 M G n × (RightC3 M G n × (RightC1 M G n × (RightC2 M G n × (RightValue M G (G .value) n × Unit {0}))))))))
+      → Decides (RightA1 M G n × (RightA2 M G R n × (RightB1 M G R n × (RightB2 M G R n × (RightC3 M G n × (RightC1 M G n × (RightC2 M G n × (RightValue M G (G .value) n × Unit {0}))))))))
       (allRules (nodeRules M G n))
   unfolding allRules
   rules-decided n =
@@ -220,7 +223,7 @@ module _ (M : Model) (G : Simulation) where
       })
       (λ r. (r .nodes, ((λ n l. (r .edges n, λ h. r .spent)), (r .initial, tt))))
 
-  rules-ask : AllHold (ruleRows M G) ↔ RulesRight M G
+  rules-ask : AllHold (ruleRows M G) ↔ RulesRight M G R
   rules-ask = put-so
       (row-asks _ rules-decided row-and no-rows)
       (λ h. record {
@@ -247,7 +250,7 @@ first-ask M g = put-so
     (λ h. record { folder = h .0; content = h .1 })
     (λ r. (r .folder, r .content))
 
-rows-ask : (M : Model) (g : List ℕ) → AllHold (graphRows M g) ↔ (RowsRight M g × RulesRight M (simulationOf M g))
+rows-ask : (M : Model) (g : List ℕ) → AllHold (graphRows M g) ↔ (RowsRight M g × RulesRight M (simulationOf M g) (byStates M (simulationOf M g)))
 rows-ask M g = tables-ask (firstRows M g) (first-ask M g) (rules-ask M (simulationOf M g))
 
 pub graph-asks : (m g : List ℕ) → AllHold (modelRows m ++ graphRows (modelOf m) g) ↔ Valid m g

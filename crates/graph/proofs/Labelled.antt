@@ -6,28 +6,28 @@ use mathlib.Core.Bool.{true}
 use mathlib.Core.List.{List}
 use native.Mathlib.Nat.{not-suc-le-zero, le-of-suc-le-suc}
 use native.Mathlib.Omega.{arith}
+use borrow.Author.Tests.{lt-ltb}
 use lib.ListN.{length, getD}
-use lib.IntN.{ℤ, pos}
+use lib.IntN.{pos}
 use Rattle.mdp.specs.Kinds.{Kind}
 use Rattle.mdp.specs.Graph.{Labelled, Valued}
 use Rattle.folder.specs.Tab.{tab, passing}
-use Rattle.folder.proofs.PickLaws.{pick-by}
 use Rattle.folder.proofs.TabLaws.{length-tab, getD-tab, passing-at, passing-stands}
 use Rattle.expressions.specs.Meaning.{State, valueOf, numberIn, truthIn}
-use Rattle.expressions.specs.Reading.{lookIn}
-use Rattle.expressions.specs.declared.Number.{Number}
-use Rattle.expressions.specs.declared.Number.the-variants.{Known}
+use Rattle.expressions.specs.Combinations.{Holds, Proper}
 use Rattle.expressions.proofs.Bits.{bit-below}
-use Rattle.expressions.proofs.Sound.{Says, SaysT, number-sound, truth-sound, known-is, true-is, false-is, is-true}
-use Rattle.model.specs.Model.{Model, firstRecord}
+use Rattle.expressions.proofs.Sound.{Says, SaysT, known-is, true-is, false-is, is-true}
+use Rattle.expressions.proofs.States as States
+use Rattle.whole.proofs.Order.{to-⊑, from-⊑, ⊑-trans}
+use Rattle.model.specs.Model.{Model, bound, firstRecord}
 use Rattle.model.specs.Chances.{InRange, mdp, next, initialState}
 use Rattle.model.specs.Valid.{ModelRight}
-use Rattle.model.proofs.Chances.{next-in-range}
+use Rattle.model.proofs.Chances.{in-bounds, next-in-range}
 use Rattle.graph.specs.Limits.{units}
 use Rattle.graph.specs.Simulation.{Simulation, graph, kindOf}
-use Rattle.graph.specs.Labels.{tracks, look, concreteState, numberOf, truthOf, Contains}
+use Rattle.graph.specs.Labels.{tracks, labelOf, concreteState, numberOf, truthOf, byStates, Contains}
 use Rattle.graph.specs.Rules.{enabledIn}
-use Rattle.graph.specs.Valid.{NodeRight, ContentRight, RulesRight}
+use Rattle.graph.specs.Valid.{NodeRight, ContentRight, RightA1, RulesRight}
 use Rattle.graph.proofs.Decided.{true-decided}
 
 -- ---- kinds
@@ -73,27 +73,49 @@ module _ (M : Model) (G : Simulation) (n : ℕ) (N : NodeRight M G n) where
     high = λ v p. rw (getD-tab (pos 0) (M .variables) (G .concrete n) v p) (N .high v p);
   }
 
-module _ (M : Model) (R : ModelRight M) (G : Simulation) (K : ContentRight M G) (A : RulesRight M G) where
-  -- A label says of each variable nothing, or its value in every state that it contains.
-  look-says : (n : ℕ) → n < G .nodes → (s : State) → Contains M G n s → (i : ℕ) → Says (look M G n i) (valueOf s i)
-  unfolding lookIn
-  look-says n l s c i = pick-by (λ (a : Number). Says a (valueOf s i)) (tracks G n i) told (λ t. Says.open-number)
+  -- Its label, where A1 passes it too, is proper: no range is crossed, for the concrete value lies in it.
+  pub proper : RightA1 M G n → Proper (labelOf M G n)
+  proper A = record {
+    ordered = λ v p. let h = in-bounds M (concreteState M G n) concrete-in-range v in from-⊑ (⊑-trans (to-⊑ (h .low)) (to-⊑ (h .high)));
+    there = tracked-there;
+    low = λ v t. rw (concrete-is v t) (in-bounds M (concreteState M G n) concrete-in-range v .low);
+    high = λ v t. rw (concrete-is v t) (in-bounds M (concreteState M G n) concrete-in-range v .high);
+  }
     where
-      row : List ℤ
-      row = tab (M .variables) (G .label n)
+      concrete-is : (v : ℕ) → tracks G n v ≡ true → getD (tab (M .variables) (G .label n)) v (pos 0) ≡ valueOf (concreteState M G n) v
+      concrete-is v t =
+          let p : v < M .variables = tracked-there v t in
+          getD-tab (pos 0) (M .variables) (G .label n) v p ∙ A v p t ∙ sym (getD-tab (pos 0) (M .variables) (G .concrete n) v p)
 
-      told : tracks G n i ≡ true → Says (Known (getD row i (pos 0))) (valueOf s i)
-      told t =
-          let p : i < M .variables = tracked-there M G n (K .nodes n l) i t in
-          let e : getD row i (pos 0) ≡ valueOf s i = getD-tab (pos 0) (M .variables) (G .label n) i p ∙ sym (c .agrees i p t) in
-          subst (λ (z : ℤ). Says (Known (getD row i (pos 0))) z) e Says.known
+-- The states that a node's label contains are those of its label over the model's variables.
+module _ (M : Model) (G : Simulation) (n : ℕ) (s : State) where
+  pub holds : Contains M G n s → Holds (labelOf M G n) s
+  holds c = record {
+    long = c .state .long;
+    low = λ v p. in-bounds M s (c .state) v .low;
+    high = λ v p. in-bounds M s (c .state) v .high;
+    agrees = λ v p t. c .agrees v p t ∙ sym (getD-tab (pos 0) (M .variables) (G .label n) v p);
+  }
 
+  pub contained : Holds (labelOf M G n) s → Contains M G n s
+  unfolding bound
+  contained h = record {
+    state = record {
+      long = h .long;
+      low = λ v p. rw (lt-ltb v (M .variables) p) at (h .low v p);
+      high = λ v p. rw (lt-ltb v (M .variables) p) at (h .high v p);
+    };
+    agrees = λ v p t. h .agrees v p t ∙ getD-tab (pos 0) (M .variables) (G .label n) v p;
+  }
+
+module _ (M : Model) (R : ModelRight M) (G : Simulation) (K : ContentRight M G) (A : RulesRight M G (byStates M G)) where
+  -- A reading says nothing, or what is so in every state that the label contains.
   module _ (n : ℕ) (l : n < G .nodes) (s : State) (c : Contains M G n s) where
     says-number : (e : ℕ) → Says (numberOf M G n e) (numberIn (M .entries) s e)
-    says-number = number-sound (M .entries) (look M G n) s (look-says n l s c)
+    says-number e = States.says-number (M .entries) (labelOf M G n) (proper M G n (K .nodes n l) (A .a1 n l)) e s (holds M G n s c)
 
     says-truth : (e : ℕ) → SaysT (truthOf M G n e) (truthIn (M .entries) s e)
-    says-truth = truth-sound (M .entries) (look M G n) s (look-says n l s c)
+    says-truth e = States.says-truth (M .entries) (labelOf M G n) (proper M G n (K .nodes n l) (A .a1 n l)) e s (holds M G n s c)
 
   kind-of : (n : ℕ) → n < G .nodes → (κ : Kind) → kindOf (G .kind n) ≡ κ → G .kind n ≡ numberOfKind κ
   kind-of n l = kind-is (G .kind n) (K .nodes n l .kind)

@@ -7,3 +7,4 @@ pub mod Labelled
 pub mod RowLaws
 pub mod Demand
 pub mod Seconds
+pub mod Stays

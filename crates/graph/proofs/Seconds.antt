@@ -2,36 +2,40 @@
 -- 21 the variable whose label does not follow, or none; of every other number 0.
 -- Assumes nothing.
 use Prim.Native.Nat.{ℕ, _<_, _≤_}
-use mathlib.Core.Path.{_≡_, refl, sym, ap, _∙_}
+use mathlib.Core.Path.{_≡_, refl, sym, ap, _∙_, subst}
 use mathlib.Core.Logic.{_⊎_, ⊎-elim, _≢_}
 use mathlib.Core.Bool.{Bool, true, false, false≢true}
-use mathlib.Core.List.{List}
+use mathlib.Core.List.{List, [], _∷_}
 use native.Mathlib.Decide.{decLt}
 use native.Mathlib.Omega.{arith}
 use borrow.Author.Tests.{lt-ltb, le-ltb, eq-eqb, eqb-true}
 use Rattle.folder.specs.Scan.{firstBad, all}
-use Rattle.folder.specs.Table.{refusal, refusalBy}
+use Rattle.folder.specs.Table.{Row, refusal, refusalBy, group, BrokenAt, Broken, BrokenRule}
 use Rattle.folder.specs.declared.Refusal.{Refusal}
+use Rattle.folder.specs.declared.Cause.{Cause}
 use Rattle.folder.specs.declared.Outcome.the-variants.{Refused}
 use Rattle.folder.proofs.ScanLaws.{found, stops-below, all-true}
 use Rattle.folder.proofs.Decides.{second-fails, implies-fails}
-use Rattle.folder.proofs.TableLaws.{Gives, each, over, given, RulesGive, each-rule, rules-end, rule-given, broken-in, first-broken}
+use Rattle.folder.proofs.TableLaws.{Gives, each, over, given, each-rule, rules-end, rule-given, broken-in, first-broken}
 use Rattle.expressions.specs.Reading.{isKnown}
 use Rattle.expressions.specs.Mentions.{lacked}
 use Rattle.expressions.specs.Right.{IsTruth}
 use Rattle.expressions.specs.declared.Truth.{Truth}
 use Rattle.expressions.specs.declared.Truth.the-variants.{True, False, Unknown}
-use Rattle.expressions.proofs.Missing.{truth-lacks}
+use Rattle.expressions.specs.Combinations.{Proper}
+use Rattle.expressions.proofs.States.{truth-misses}
 use Rattle.model.specs.Model.{Model, modelOf}
 use Rattle.model.specs.Table.{modelRows}
 use Rattle.model.specs.Valid.{ModelRight}
 use Rattle.model.proofs.Decided.{model-asks}
 use Rattle.graph.specs.Simulation.{Simulation, simulationOf}
-use Rattle.graph.specs.Labels.{truthOf, readingOf}
+use Rattle.graph.specs.Labels.{labelOf, truthOf, readingOf}
 use Rattle.graph.specs.Rules.{isExpanded, labelFollows, follows, edgeFollows, edgesFollow, B2}
-use Rattle.graph.specs.Table.{nodeRules, ruleRows, graphRows, graphOutcome}
+use Rattle.graph.specs.Table.{firstRows, nodeRules, graphRows, graphOutcome}
 use Rattle.graph.specs.Seconds.{openGuard, second19, badEdge, badBranch, successorFollows, secondOf, second21, LacksVariable, GuardsKnown, Second19, FollowsBelow, resultAt, labelAt, Second21, Told}
-use Rattle.graph.proofs.Decided.{refused-first}
+use Rattle.graph.specs.Valid.{NodeRight, ContentRight}
+use Rattle.graph.proofs.Decided.{a1-decided, first-ask, refused-first}
+use Rattle.graph.proofs.Labelled.{proper}
 
 -- ---- readings
 unknown-is : (t : Truth) → isKnown t ≡ false → t ≡ Unknown
@@ -47,9 +51,9 @@ module _ (M : Model) (G : Simulation) (n : ℕ) where
   guards-before : {c : ℕ} → c ≤ openGuard M G n → GuardsKnown M G n c
   guards-before l k h = known-is _ (found (λ c. isKnown (truthOf M G n (M .guard c))) (M .commands) .before k (omega arith))
 
-  module _ (right : ModelRight M) where
+  module _ (right : ModelRight M) (P : Proper (labelOf M G n)) where
     lacks : (e : ℕ) → IsTruth (M .entries) e → truthOf M G n e ≡ Unknown → LacksVariable M G n e (lacked (readingOf M G n e))
-    lacks e i o = rw o (truth-lacks (M .entries) (M .variables) (right .entries) (G .tracked n) _ e i o)
+    lacks e i o = rw o (truth-misses (M .entries) (labelOf M G n) P e (right .entries) i o)
 
     by-guards : G .kind n ≡ 1 → openGuard M G n < M .commands → Second19 M G n (second19 M G n)
     unfolding second19
@@ -114,13 +118,17 @@ module _ (M : Model) (G : Simulation) (n : ℕ) where
             rw e (Second21.by-label _ _ _ below (all-true result (M .variables) e) l (implies-fails _ _ (h .broken l) .0) (h .broken l) (h .before))
 
 -- ---- of a whole answer
+-- A table of one row is broken in it.
+last-broken : {r : Row} {f : Refusal} → Broken (r ∷ []) f → BrokenAt r f
+last-broken (Broken.here b) = b
+
 module _ (M : Model) (G : Simulation) where
   -- A row of another number gives no second place.
   plain : (k p : ℕ) → k ≢ 19 → k ≢ 21 → Told M G (refusal k p)
   plain k p a b = record { by-reading = λ e. absurd (a e); by-successor = λ e. absurd (b e); otherwise = λ x y. refl }
 
-  of-19 : (n : ℕ) → ModelRight M → Told M G (refusalBy (record { number = 19; second = second19 M G n }) n)
-  of-19 n right = record { by-reading = λ e. second-19 M G n right; by-successor = λ e. absurd (omega arith); otherwise = λ x y. absurd (x refl) }
+  of-19 : (n : ℕ) → ModelRight M → Proper (labelOf M G n) → Told M G (refusalBy (record { number = 19; second = second19 M G n }) n)
+  of-19 n right P = record { by-reading = λ e. second-19 M G n right P; by-successor = λ e. absurd (omega arith); otherwise = λ x y. absurd (x refl) }
 
   of-21 : (n : ℕ) → B2 M G n ≡ false → Told M G (refusalBy (record { number = 21; second = second21 M G n }) n)
   of-21 n e = record { by-reading = λ h. absurd (omega arith); by-successor = λ h. second-21 M G n e; otherwise = λ x y. absurd (y refl) }
@@ -128,26 +136,34 @@ module _ (M : Model) (G : Simulation) where
   other : (k p : ℕ) → k < 19 → Told M G (refusal k p)
   other k p l = plain k p (λ e. omega arith) (λ e. omega arith)
 
-  node-told : ModelRight M → (n : ℕ) → RulesGive (λ c. Told M G (refusalBy c n)) (nodeRules M G n)
-  node-told right n =
-      each-rule (λ e. other 18 n (omega arith))
-      (each-rule (λ e. of-19 n right)
+  -- A node's rules: 19 comes where row 15 and 18 of that node hold, so that its label is proper.
+  node-told : ModelRight M → (n : ℕ) → NodeRight M G n → {c : Cause} → BrokenRule (nodeRules M G n) c → Told M G (refusalBy c n)
+  node-told right n N (BrokenRule.here e) = other 18 n (omega arith)
+  node-told right n N (BrokenRule.later a1 b) = rule-given {P = λ c. Told M G (refusalBy c n)}
+      (each-rule (λ e. of-19 n right (proper M G n N (a1-decided M G n .yes a1)))
       (each-rule (λ e. plain 20 n (λ h. omega arith) (λ h. omega arith))
       (each-rule (λ e. of-21 n e)
       (each-rule (λ e. plain 22 n (λ h. omega arith) (λ h. omega arith))
       (each-rule (λ e. plain 23 n (λ h. omega arith) (λ h. omega arith))
       (each-rule (λ e. plain 24 n (λ h. omega arith) (λ h. omega arith))
-      (each-rule (λ e. plain 25 n (λ h. omega arith) (λ h. omega arith)) rules-end)))))))
+      (each-rule (λ e. plain 25 n (λ h. omega arith) (λ h. omega arith)) rules-end))))))) b
 
-  rules-told : ModelRight M → Gives (Told M G) (ruleRows M G)
-  rules-told right = each (λ n e. rule-given (node-told right n) (first-broken (nodeRules M G n) e)) over
+  rules-told : ModelRight M → ContentRight M G → {f : Refusal} → BrokenAt (group (G .nodes) (nodeRules M G)) f → Told M G f
+  rules-told right K b =
+      subst (Told M G) (b .gives) (node-told right (b .at) (K .nodes (b .at) (b .place)) (first-broken (nodeRules M G (b .at)) (b .broken)))
 
 module _ (m g : List ℕ) where
+  abbrev M : Model
+  M = modelOf m
+
+  abbrev G : Simulation
+  G = simulationOf M g
+
   abbrev ToldOf : Refusal → Type 0
-  ToldOf = Told (modelOf m) (simulationOf (modelOf m) g)
+  ToldOf = Told M G
 
   first-told : (k p : ℕ) → k < 19 → ToldOf (refusal k p)
-  first-told = other (modelOf m) (simulationOf (modelOf m) g)
+  first-told = other M G
 
   model-told : Gives ToldOf (modelRows m)
   model-told =
@@ -163,16 +179,21 @@ module _ (m g : List ℕ) where
       (each (λ p e. first-told 10 p (omega arith))
       (each (λ p e. first-told 11 p (omega arith)) over))))))))))
 
-  graph-told : ModelRight (modelOf m) → Gives ToldOf (graphRows (modelOf m) g)
-  graph-told right =
+  rows-told : Gives ToldOf (firstRows M g)
+  rows-told =
       each (λ p e. first-told 12 0 (omega arith))
       (each (λ p e. first-told 13 p (omega arith))
       (each (λ p e. first-told 14 0 (omega arith))
       (each (λ p e. first-told 15 p (omega arith))
       (each (λ p e. first-told 16 p (omega arith))
-      (each (λ p e. first-told 17 0 (omega arith)) (rules-told (modelOf m) (simulationOf (modelOf m) g) right))))))
+      (each (λ p e. first-told 17 0 (omega arith)) over)))))
+
+  -- The rows of the graph, where the model's hold.
+  graph-told : ModelRight M → {f : Refusal} → Broken (graphRows M g) f → ToldOf f
+  graph-told right b =
+      ⊎-elim (λ c. given rows-told c) (λ h. rules-told M G right (first-ask M g .0 (h .0) .content) (last-broken (h .1))) (broken-in (firstRows M g) b)
 
   -- Request 2.2: both places of every refusal of the graph check.
   pub second-told : (f : Refusal) → graphOutcome m g ≡ Refused f → ToldOf f
   second-told f e =
-      ⊎-elim (λ b. given model-told b) (λ h. given (graph-told (model-asks m .0 (h .0) .model)) (h .1)) (broken-in (modelRows m) (refused-first m g f e))
+      ⊎-elim (λ b. given model-told b) (λ h. graph-told (model-asks m .0 (h .0) .model) (h .1)) (broken-in (modelRows m) (refused-first m g f e))

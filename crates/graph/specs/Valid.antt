@@ -1,4 +1,5 @@
--- Rows 12 to 25, in document 01's words. (Rules.antt has their tests.)
+-- Rows 12 to 25, in document 01's words. (Rules.antt has their tests.) Those that read expressions are said of any readings
+-- R: since document 02, 2.4, the check goes by all states of a label.
 -- Assumes nothing.
 use Prim.Native.Nat.{ℕ, _+_, _*_, _/_, _%_, _^_, _<_, _≤_}
 use mathlib.Core.Path.{_≡_}
@@ -12,6 +13,7 @@ use Rattle.mdp.specs.Graph.{along}
 use Rattle.folder.specs.Tab.{tab, passing}
 use Rattle.folder.specs.Contents.{body, EntryRight as ContentsRight}
 use Rattle.expressions.specs.Meaning.{numberIn}
+use Rattle.expressions.specs.Reading.{isTrue}
 use Rattle.expressions.specs.declared.Number.the-variants.{Known}
 use Rattle.expressions.specs.declared.Truth.the-variants.{True, False, Unknown}
 use Rattle.model.specs.Model.{Model, modelOf, firstRecord}
@@ -19,8 +21,7 @@ use Rattle.model.specs.Chances.{mdp, initialState}
 use Rattle.model.specs.Valid as Models
 use Rattle.graph.specs.Limits.{leastBytes, mostBytes, mostNodes, units, mostSteps}
 use Rattle.graph.specs.Simulation.{Simulation, bodies, nodeSize, nodeCount, simulationOf, graph}
-use Rattle.graph.specs.Labels.{tracks, concreteState, numberOf, truthOf}
-use Rattle.graph.specs.Rules.{enabledIn}
+use Rattle.graph.specs.Labels.{Readings, tracks, concreteState, byStates, threeWay}
 
 -- Rows 12 to 14.
 pub record FolderRight (M : Model) (g : List ℕ) : Type 0 where
@@ -65,24 +66,24 @@ module _ (M : Model) (G : Simulation) where
   RightA1 n = (v : ℕ) → v < M .variables → tracks G n v ≡ true → G .label n v ≡ G .concrete n v
 
   -- A2: expanded, and no guard unknown and the target false; target, and the target true.
-  pub record RightA2 (n : ℕ) : Type 0 where
-    pub guards : G .kind n ≡ 1 → (c : ℕ) → c < M .commands → truthOf M G n (M .guard c) ≢ Unknown
-    pub no-target : G .kind n ≡ 1 → truthOf M G n (M .target) ≡ False
-    pub target : G .kind n ≡ 3 → truthOf M G n (M .target) ≡ True
+  pub record RightA2 (R : Readings) (n : ℕ) : Type 0 where
+    pub guards : G .kind n ≡ 1 → (c : ℕ) → c < M .commands → R .truth n (M .guard c) ≢ Unknown
+    pub no-target : G .kind n ≡ 1 → R .truth n (M .target) ≡ False
+    pub target : G .kind n ≡ 3 → R .truth n (M .target) ≡ True
 
   -- B1: expanded, and its edges are the enabled commands, each once, ascending.
-  abbrev pub RightB1 : ℕ → Type 0
-  RightB1 n = G .kind n ≡ 1 → tab (G .edges n) (G .command n) ≡ passing (M .commands) (enabledIn M G n)
+  abbrev pub RightB1 : Readings → ℕ → Type 0
+  RightB1 R n = G .kind n ≡ 1 → tab (G .edges n) (G .command n) ≡ passing (M .commands) (λ c. isTrue (R .truth n (M .guard c)))
 
   -- B2: the successor of edge e by branch b.
-  pub record Follows (n e b : ℕ) : Type 0 where
+  pub record Follows (R : Readings) (n e b : ℕ) : Type 0 where
     pub concrete : (v : ℕ) → v < M .variables
         → G .concrete (G .successor n e b) v ≡ numberIn (M .entries) (concreteState M G n) (M .assigned (firstRecord M (G .command n e) + b) v)
     pub label : (v : ℕ) → v < M .variables → tracks G (G .successor n e b) v ≡ true
-        → numberOf M G n (M .assigned (firstRecord M (G .command n e) + b) v) ≡ Known (G .label (G .successor n e b) v)
+        → R .number n (M .assigned (firstRecord M (G .command n e) + b) v) ≡ Known (G .label (G .successor n e b) v)
 
-  abbrev pub RightB2 : ℕ → Type 0
-  RightB2 n = G .kind n ≡ 1 → (e : ℕ) → e < G .edges n → (b : ℕ) → b < M .branches (G .command n e) → Follows n e b
+  abbrev pub RightB2 : Readings → ℕ → Type 0
+  RightB2 R n = G .kind n ≡ 1 → (e : ℕ) → e < G .edges n → (b : ℕ) → b < M .branches (G .command n e) → Follows R n e b
 
   -- C3: the cover is there and not itself covered.
   abbrev pub RightC3 : ℕ → Type 0
@@ -106,11 +107,11 @@ module _ (M : Model) (G : Simulation) where
     pub covered : G .kind n ≡ 2 → value (G .cover n) ≤ value n
 
   -- Rows 18 to 25.
-  pub record RulesRight : Type 0 where
+  pub record RulesRight (R : Readings) : Type 0 where
     pub a1 : (n : ℕ) → n < G .nodes → RightA1 n
-    pub a2 : (n : ℕ) → n < G .nodes → RightA2 n
-    pub b1 : (n : ℕ) → n < G .nodes → RightB1 n
-    pub b2 : (n : ℕ) → n < G .nodes → RightB2 n
+    pub a2 : (n : ℕ) → n < G .nodes → RightA2 R n
+    pub b1 : (n : ℕ) → n < G .nodes → RightB1 R n
+    pub b2 : (n : ℕ) → n < G .nodes → RightB2 R n
     pub c3 : (n : ℕ) → n < G .nodes → RightC3 n
     pub c1 : (n : ℕ) → n < G .nodes → RightC1 n
     pub c2 : (n : ℕ) → n < G .nodes → RightC2 n
@@ -125,7 +126,13 @@ pub record RowsRight (M : Model) (g : List ℕ) : Type 0 where
 pub record Valid (m g : List ℕ) : Type 0 where
   pub model : Models.Valid m
   pub rows : RowsRight (modelOf m) g
-  pub rules : RulesRight (modelOf m) (simulationOf (modelOf m) g)
+  pub rules : RulesRight (modelOf m) (simulationOf (modelOf m) g) (byStates (modelOf m) (simulationOf (modelOf m) g))
+
+-- What it asked before 2.4: the same, by document 01's readings.
+pub record ValidThreeWay (m g : List ℕ) : Type 0 where
+  pub model : Models.Valid m
+  pub rows : RowsRight (modelOf m) g
+  pub rules : RulesRight (modelOf m) (simulationOf (modelOf m) g) (threeWay (modelOf m) (simulationOf (modelOf m) g))
 
 -- Rows 26 to 28: no node waits, h is at most 10,000, and no row is shorter than the nodes.
 pub record FigureRight (G : Simulation) (h : ℕ) (first second : List ℕ) : Type 0 where
