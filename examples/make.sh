@@ -10,6 +10,7 @@ cd "$(dirname "$0")/.."
 examples='
 pedal                    pedal/pedal.model
 scan_loop                scan_loop/scan.model
+mixer                    mixer/mixer.model
 explored_twice           pedal/pedal.model
 refused_19               pedal/pedal.model
 refused_20               pedal/pedal.model

@@ -20,15 +20,20 @@ from .folder import (
     read_graph,
     read_model,
 )
-from .limits import CERTAIN, GRAPH_BYTES, LEAST_GRAPH_BYTES, MOST_NODES, NO_VARIABLE
+from .limits import CERTAIN, GRAPH_BYTES, LEAST_GRAPH_BYTES, MOST_COMBINATIONS, MOST_NODES, NO_VARIABLE
 from .names import plain_names
-from .readings import Readings, mentioned
+from .readings import Readings, States
 
 
 def listed(items, none="none"):
     """`0, 3 and 7`."""
     items = [str(item) for item in items]
     return " and ".join([", ".join(items[:-1])] * (len(items) > 1) + items[-1:]) or none
+
+
+def shown(value):
+    """A reading: a truth as it is written, or a number."""
+    return str(value).lower()
 
 
 class GraphRules:
@@ -41,6 +46,7 @@ class GraphRules:
         self.texts = EntryTexts(self.model.entries, self.names.variables)
         self.shape = Shape(len(self.model.variables), [command.branches for command in self.model.commands])
         self.first = [self.model.first_record(c) for c in range(len(self.model.commands))]
+        self.states = States(self.model)
 
     def finding(self):
         """The first broken rule, or None."""
@@ -160,11 +166,11 @@ class NodeRules:
     def __init__(self, rules, n, node):
         self.n, self.node = n, node
         self.model, self.graph, self.names, self.texts = rules.model, rules.graph, rules.names, rules.texts
-        self.first = rules.first
+        self.first, self.states = rules.first, rules.states
         self.advice = ""  # where a rule has several causes, and one its own remedy
         self.sums = ""  # how what is asked comes about, where it is a sum
         self.second = 0  # the second place, where a rule has one
-        self.in_label = Readings(self.model.entries, lambda v: node.label[v] if node.tracks(v) else None)
+        self.three_way = Readings(self.model.entries, lambda v: node.label[v] if node.tracks(v) else None)
         self.in_state = Readings(self.model.entries, lambda v: node.concrete[v])
 
     def finding(self):
@@ -186,7 +192,34 @@ class NodeRules:
     def lacking(self, e):
         """The variables that an expression mentions and the label does not track, lowest first. Where the expression
         is unknown there is one."""
-        return [v for v in sorted(mentioned(self.model.entries, e)) if not self.node.tracks(v)]
+        return [v for v in self.states.mentioned(e) if not self.node.tracks(v)]
+
+    def in_label(self, e):
+        """The reading of an expression in the label, of a node that keeps row 18: a number, a truth or None."""
+        read = self.three_way.read(e)
+        if read is not None:
+            return read
+        tried = self.tried(e)
+        return tried.value if tried else None
+
+    def tried(self, e):
+        """What all states of the label say of an expression, unless there are too many combinations."""
+        lacking = self.lacking(e)
+        few = self.states.combinations(lacking) <= MOST_COMBINATIONS
+        return self.states.read(e, lacking, self.node.concrete) if few else None
+
+    def why_unknown(self, e):
+        """Why an expression is unknown in the label."""
+        lacking, tried = self.lacking(e), self.tried(e)
+        count, told = self.states.combinations(lacking), f"which does not track {self.named(lacking)}"
+        if not tried:
+            many = f"its {count} combinations are too many to try, at most {MOST_COMBINATIONS}"
+            return f"{told}: {many}, and its known parts do not settle it"
+        differing = ", ".join(
+            f"{shown(value)} with {listed(f'{self.name(v)} = {x}' for v, x in zip(lacking, values))}"
+            for values, value in tried.differing
+        )
+        return f"{told}: it is not the same in all states ({count} combinations): {differing}"
 
     def named(self, variables):
         return listed(self.name(v) for v in variables)
@@ -202,9 +235,9 @@ class NodeRules:
         if self.node.kind not in (EXPANDED, TARGET):
             return None
         for c, command in enumerate(self.model.commands if self.node.kind == EXPANDED else ()):
-            if self.in_label.read(command.guard) is None:
+            if self.in_label(command.guard) is None:
                 return self.unsettled("guard", f" of {self.names.command(c)}", command.guard)
-        read = self.in_label.read(self.model.target)
+        read = self.in_label(self.model.target)
         if read is None:
             return self.unsettled("target", "", self.model.target)
         return self.wrong_target() if read == (self.node.kind == EXPANDED) else None
@@ -218,7 +251,7 @@ class NodeRules:
         mend = "then mend the nodes that lead here (21) and those that it covers (24)"
         self.advice = f"{track}, or write the {what} without {self.named(lacking)}; {mend}"
         unknown = f"the {what}{whose}, {self.texts.told(e)}, is unknown in its label"
-        return f"is {KINDS[self.node.kind]}, and {unknown}, which does not track {self.named(lacking)}"
+        return f"is {KINDS[self.node.kind]}, and {unknown}, {self.why_unknown(e)}"
 
     def wrong_target(self):
         """That the target is true in an expanded node, or false in a target node."""
@@ -234,7 +267,7 @@ class NodeRules:
         if self.node.kind != EXPANDED:
             return None
         there = [edge.command for edge in self.graph.edges[self.n]]
-        due = [c for c, command in enumerate(self.model.commands) if self.in_label.read(command.guard)]
+        due = [c for c, command in enumerate(self.model.commands) if self.in_label(command.guard)]
         if there == due:
             return None
         return f"has edges of commands {listed(there)}, and commands {listed(due)} are due: {self.why_not(there, due)}"
@@ -282,15 +315,17 @@ class NodeRules:
         """Why a successor's label does not follow by such a branch: of its tracked variables the lowest that fails."""
         node = self.graph.nodes[successor]
         for v, e in enumerate(assigned):
-            read = self.in_label.read(e)
-            if not node.tracks(v) or read == node.label[v]:
+            if not node.tracks(v):
+                continue
+            read = self.in_label(e)
+            if read == node.label[v]:
                 continue
             self.second = v
             new = f"it tracks {self.name(v)}, and {self.name(v)}' = {self.texts.told(e)}"
             if read is None:
                 lacking = self.named(self.lacking(e))
                 self.advice = f"track {lacking} in node {self.n}, or stop tracking {self.name(v)} in node {successor}"
-                return f"{new} is unknown in the label of node {self.n}, which does not track {lacking}"
+                return f"{new} is unknown in the label of node {self.n}, {self.why_unknown(e)}"
             self.advice = f"write {read} there: the label value of a tracked variable is the node's concrete value"
             there = f"the label of node {successor} has {node.label[v]}"
             return f"{new} is {read} in the label of node {self.n}, where {there}"

@@ -13,6 +13,7 @@ MOST_BRANCHES = 16  # of one command
 DEEPEST = 12  # the depth of an expression
 LEAST_BOUND, MOST_BOUND = -30_000, 30_000  # of a variable
 FARTHEST = 1_000_000  # the range of every number, either side
+MOST_COMBINATIONS = 4_096  # of untracked variables' values, that are tried for a reading
 
 LEAST_GRAPH_BYTES = 16
 GRAPH_BYTES = 1_048_576

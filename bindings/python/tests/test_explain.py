@@ -59,14 +59,15 @@ CAUSES = {
     ),
     (("tracks a=0 state a=0 d=0", "tracks d=0 state a=0 d=0"),): (
         "19 0: node 0 (a = 0, d = 0) is expanded, and the guard of command 0, a < 2, is unknown in its label, "
-        "which does not track a"
+        "which does not track a: it is not the same in all states (4 combinations): true with a = 0, false with a = 2"
     ),
     (("node 5 target", "node 5 expanded"),): (
         "19 5: node 5 (a = 2, d = 0) is expanded, and the target, a = 2, is true in its label: a target state is not "
         "expanded"
     ),
     (("tracks a=2", "tracks none"),): (
-        "19 5: node 5 (a = 2, d = 0) is target, and the target, a = 2, is unknown in its label, which does not track a"
+        "19 5: node 5 (a = 2, d = 0) is target, and the target, a = 2, is unknown in its label, which does not track "
+        "a: it is not the same in all states (4 combinations): false with a = 0, true with a = 2"
     ),
     (("node 4 covered by 1 value 0", "node 4 target"), *SURE): (
         "19 4: node 4 (a = 3, d = 0) is a target, and the target, a = 2, is false in its label: a target node has "
@@ -94,7 +95,8 @@ CAUSES = {
     ),
     (("tracks a=0 state a=0 d=1", "tracks a=0 d=1 state a=0 d=1"),): (
         "21 0: node 0 (a = 0, d = 0) leads by edge 1, command 1, branch 0, to node 3: it tracks d, and d' = 1 - d is "
-        "unknown in the label of node 0, which does not track d"
+        "unknown in the label of node 0, which does not track d: it is not the same in all states (2 combinations): "
+        "1 with d = 0, 0 with d = 1"
     ),
     (("tracks a=1", "tracks a=3"),): (
         "21 0: node 0 (a = 0, d = 0) leads by edge 0, command 0, branch 1, to node 2: it tracks a, and a' = "
@@ -318,6 +320,82 @@ class Seconds(unittest.TestCase):
                 self.assertIn(f"what to do: {advice}", lines[3])
                 self.assertTrue(lines[4].endswith("Its number and both places are the proved ones."))
                 self.assertEqual(explanation.data()["second"], second)
+
+
+# A model whose guard and new value mention d and e, and a graph of which node 0 tracks neither.
+UNTRACKED = """\
+total 1
+variable d 0..{d} = 0
+variable e 0..{e} = 0
+variable x -30000..30000 = 0
+target not true
+command turn: {guard}
+  1: x' = {new}
+"""
+LED = """\
+node 0 expanded value S tracks none state d=0 e=0 x=0
+  edge turn: 1
+node 1 waiting tracks x state d=0 e=0 x={x}
+"""
+EITHER = "d + e = 0 or not d + e = 0"
+FEW, MANY = "it is not the same in all states ({} combinations): {}", "its {} combinations are too many to try, at most"
+NOT_SETTLED = "4096, and its known parts do not settle it"
+
+# By the highest d and e, a guard and a new value: the number and both places, and what is said of an unknown reading.
+BY_ALL_STATES = {
+    (1, 0, "d = 0 or not d = 0", "1"): ((0, 0, 0), None),
+    (4095, 0, EITHER, "1"): ((0, 0, 0), None),
+    (4096, 0, EITHER, "1"): ((19, 0, 0), f"which does not track d and e: {MANY.format(4097)} {NOT_SETTLED}"),
+    (63, 63, EITHER, "1"): ((0, 0, 0), None),
+    (63, 64, EITHER, "1"): ((19, 0, 0), f"which does not track d and e: {MANY.format(4160)} {NOT_SETTLED}"),
+    (63, 64, f"true or {EITHER}", "1"): ((0, 0, 0), None),
+    (63, 30000, "not d = 64", "1"): ((0, 0, 0), None),
+    (63, 30000, "not d = 63", "1"): ((19, 0, 0), FEW.format(64, "true with d = 0, false with d = 63")),
+    (15, 15, "not d + e = 30", "1"): (
+        (19, 0, 0), FEW.format(256, "true with d = 0 and e = 0, false with d = 15 and e = 15")
+    ),
+    (0, 1, "d + e = 0", "1"): ((19, 0, 0), FEW.format(2, "true with d = 0 and e = 0, false with d = 0 and e = 1")),
+    (1, 0, "true", "d - d"): ((0, 0, 0), None),
+    (1, 0, "true", "0 * d"): ((0, 0, 0), None),
+    (1, 0, "true", "if d = 0 then 1 else 1"): ((0, 0, 0), None),
+    (4095, 0, "true", "if d = 4095 then 1 else 0"): ((21, 0, 2), FEW.format(4096, "0 with d = 0, 1 with d = 4095")),
+    (4094, 0, "true", "if d = 4095 then 1 else 0"): ((0, 0, 0), None),
+    (4096, 0, "true", "d - d"): ((21, 0, 2), f"which does not track d: {MANY.format(4097)} {NOT_SETTLED}"),
+}  # fmt: skip
+
+
+class AllStates(unittest.TestCase):
+    """Readings by all states of a label, the library's and those of the rules of this package, and what is said."""
+
+    def explained(self, d, e, guard, new):
+        model = write_model(UNTRACKED.format(d=d, e=e, guard=guard, new=new))
+        graph = LED.format(x=int(new.endswith("1")))
+        return explain(model.data, write_graph(graph, model.data, model.names).data, model.names)
+
+    def test_readings(self):
+        for case, (outcome, said) in BY_ALL_STATES.items():
+            with self.subTest(case):
+                explanation = self.explained(*case)
+                self.assertEqual(explanation.outcome, outcome)
+                self.assertTrue(explanation.agrees)
+                if said:
+                    self.assertIn(said, explanation.lines()[2])
+                    self.assertIn("what to do: track d", explanation.lines()[3])
+
+    def test_sixteen_of_the_widest(self):
+        """More combinations than any number of the library holds."""
+        names = [f"v{k}" for k in range(16)]
+        sums = names
+        while sums[1:]:
+            sums = [f"({a} + {b})" for a, b in zip(sums[::2], sums[1::2])]
+        ranges = "".join(f"variable {name} -30000..30000 = 0\n" for name in names)
+        aim = f"target {sums[0]} = 0 and not {sums[0]} = 0"
+        model = write_model(f"total 1\n{ranges}{aim}\ncommand stay: true\n  1: v0' = v0\n")
+        state = " ".join(f"{name}=0" for name in names)
+        graph = write_graph(f"node 0 target tracks none state {state}\n", model.data, model.names)
+        explanation = explain(model.data, graph.data, model.names)
+        self.assertEqual((explanation.outcome, explanation.agrees), ((19, 0, 0), True))
+        self.assertIn(MANY.format(60_001**16), explanation.lines()[2])
 
 
 class Models(Room):

@@ -11,6 +11,7 @@ mod generate;
 mod reference;
 
 use generate::data::*;
+use generate::hostile::{self, Hostile};
 use generate::large::{deep_check, figures, Large};
 use generate::limits::plain;
 use generate::random::Random;
@@ -24,15 +25,23 @@ fn time(call: &mut impl FnMut()) -> Duration {
     start.elapsed()
 }
 
-/// The least time of so many runs of each, taken in turns.
-fn report(call: &str, runs: usize, mut run_proved: impl FnMut(), mut run_plain: impl FnMut()) {
+/// The least time of so many runs of each, the proved one first, taken in turns.
+fn least(runs: usize, mut run_proved: impl FnMut(), mut run_plain: impl FnMut()) -> [Duration; 2] {
     let (mut proved, mut plain) = (Duration::MAX, Duration::MAX);
     for _ in 0..runs {
         proved = proved.min(time(&mut run_proved));
         plain = plain.min(time(&mut run_plain));
     }
+    [proved, plain]
+}
+
+fn print_times(call: &str, [proved, plain]: [Duration; 2]) {
     let ratio = proved.as_secs_f64() / plain.as_secs_f64();
     println!("  {call:<26} {proved:>12.3?} {plain:>12.3?} {ratio:>8.2}");
+}
+
+fn report(call: &str, runs: usize, run_proved: impl FnMut(), run_plain: impl FnMut()) {
+    print_times(call, least(runs, run_proved, run_plain));
 }
 
 fn heading(name: &str, model: &[u8], graph: &[u8]) {
@@ -49,9 +58,8 @@ fn model_check(model: &[u8], runs: usize) {
     );
 }
 
-fn graph_check(call: &str, model: &[u8], graph: &[u8], runs: usize) {
-    report(
-        call,
+fn graph_check(call: &str, model: &[u8], graph: &[u8], runs: usize) -> [Duration; 2] {
+    let times = least(
         runs,
         || {
             laguipy::graph_check(black_box(model), black_box(graph)).expect("accepted");
@@ -60,6 +68,17 @@ fn graph_check(call: &str, model: &[u8], graph: &[u8], runs: usize) {
             reference::graph_check(black_box(model), black_box(graph)).expect("accepted");
         },
     );
+    print_times(call, times);
+    times
+}
+
+/// The graph check where readings have all combinations to try, in so many nodes and one
+/// that tracks everything; how long it takes for each of them.
+fn combinations(hostile: Hostile, nodes: u32, runs: usize) {
+    let (model, graph) = (hostile.model(), hostile.graph(nodes as usize + 1));
+    heading(&format!("{}, {} numbers", hostile.name, hostile.asked()), &model, &graph);
+    let times = graph_check(&format!("graph check, {nodes} nodes"), &model, &graph, runs);
+    print_times("  for each node", times.map(|time| time / nodes));
 }
 
 fn figure(model: &[u8], graph: &[u8], h: usize, runs: usize) {
@@ -227,6 +246,10 @@ fn main() {
     let model = generate::products::many().bytes();
     heading("products", &model, &[]);
     model_check(&model, 1_000);
+
+    combinations(hostile::many_sets(), 64, 2);
+    combinations(hostile::one_set_of_twelve(), 512, 3);
+    combinations(hostile::one_variable(), 512, 3);
 
     let (model, graph) = generate::pedal();
     let state = model.initial();

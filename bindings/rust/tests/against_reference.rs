@@ -321,6 +321,16 @@ fn compare_large(large: Large, h: usize) {
 }
 
 #[test]
+fn hostile_inputs() {
+    for hostile in hostile::all() {
+        let (model, graph) = (hostile.model(), hostile.graph(3));
+        let answer = reference::graph_check(&model, &graph);
+        assert_eq!(laguipy::graph_check(&model, &graph), answer, "{}", hostile.name);
+        assert!(answer.is_ok(), "{}", hostile.name);
+    }
+}
+
+#[test]
 fn largest_inputs() {
     compare_large(large::deep_check(), 7);
     compare_large(large::figures(true), 40);

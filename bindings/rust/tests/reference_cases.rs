@@ -565,9 +565,10 @@ fn rows_of_the_graph_by_field() {
 
 #[test]
 fn readings_are_three_way() {
-    // The root tracks only variable 0.
+    // The root tracks only variable 0; the other has too many values to be tried.
     let model = |truth: [u16; 4]| {
         let mut model = generate::limits::plain(2, 12, 1, 1);
+        model.variables[1] = [0, 4_096, 0];
         model.entries[3] = [1, 0, 0, 0];
         model.entries[4] = [1, 1, 0, 0];
         model.entries[5] = [8, 3, 0, 0]; // known, true
@@ -820,6 +821,17 @@ fn large_inputs_are_accepted() {
     }
 }
 
+#[test]
+fn hostile_inputs_are_accepted() {
+    for hostile in hostile::all() {
+        let model = hostile.model();
+        let summary = graph_check(&model, &hostile.graph(3)).unwrap();
+        assert_eq!((summary.expanded, hostile.name), (3, hostile.name));
+        // There may be as many nodes as in any graph.
+        assert!(hostile.graph(MOST_NODES).len() <= GRAPH_BYTES);
+    }
+}
+
 // ------------------------------------------------------------ second places
 
 /// A model of three variables, all 0 at first, and so many commands, each with two
@@ -987,6 +999,68 @@ fn explored_graphs_are_accepted() {
          {untracked} with an untracked variable"
     );
     assert!(finished > 0 && covered > 0 && untracked > 0);
+}
+
+/// Rows 19 to 21 of a node, number and second place, by the definition alone: whatever is
+/// asked is read by itself, one combination after the other.
+fn broken_by_readings(Pair { model, graph }: &Pair, node: &NodeData) -> Option<(u32, usize)> {
+    let read = |entry| model.read_by_all_states(entry, &node.concrete, node.tracked);
+    let commands = if node.kind == EXPANDED { &model.commands[..] } else { &[] };
+    let guards = commands.iter().map(|&[guard, _]| guard);
+    if let Some(entry) = guards.clone().chain([model.target]).find(|&entry| read(entry).is_none()) {
+        let missing = model.mentioned()[usize::from(entry)] & !node.tracked;
+        return Some((19, missing.trailing_zeros() as usize));
+    }
+    if read(model.target) != Some((node.kind == TARGET).into()) {
+        return Some((19, NO_VARIABLE));
+    }
+    let enabled = guards.enumerate().filter(|&(_, guard)| read(guard) == Some(1)).map(|(c, _)| c as u16);
+    if !node.edges.iter().map(|edge| edge.command).eq(enabled) {
+        return Some((20, 0));
+    }
+    let values = model.evaluate(&node.concrete);
+    for edge in &node.edges {
+        let branches = model.branches_of(usize::from(edge.command)).iter().zip(&edge.successors);
+        for (branch, &successor) in branches {
+            let successor = &graph.nodes[usize::from(successor)];
+            if model.next(&values, branch) != successor.concrete {
+                return Some((21, NO_VARIABLE));
+            }
+            let follows = |&v: &usize| read(branch[1 + v]) == Some(successor.label[v].into());
+            let mut tracked = (0..model.variables.len()).filter(|&v| successor.tracks(v));
+            if let Some(v) = tracked.find(|v| !follows(v)) {
+                return Some((21, v));
+            }
+        }
+    }
+    None
+}
+
+#[test]
+fn readings_are_those_of_all_states() {
+    let (mut accepted, mut refused) = (0, [0; 3]);
+    for seed in 0..cases() / 2 {
+        let pair = readings::changed(&mut Random::new(1 << 43 | seed));
+        let answer = graph_check(&pair.model.bytes(), &pair.graph.bytes()).err();
+        if answer.is_some_and(|refusal| refusal.number < 18) {
+            continue;
+        }
+        let asked = |node: &NodeData| matches!(node.kind, EXPANDED | TARGET);
+        let broken = |node: &NodeData| broken_by_readings(&pair, node).filter(|_| asked(node));
+        let last = answer.map_or(pair.graph.nodes.len(), |refusal| refusal.place);
+        assert!(pair.graph.nodes[..last].iter().all(|node| broken(node).is_none()), "seed {seed}");
+        match answer {
+            None => accepted += 1,
+            Some(Refusal { number: 18, .. }) => (),
+            Some(Refusal { number, second, .. }) => {
+                let due = (number <= 21).then_some((number, second));
+                assert_eq!(broken(&pair.graph.nodes[last]), due, "seed {seed}");
+                due.iter().for_each(|&(number, _)| refused[number as usize - 19] += 1);
+            }
+        }
+    }
+    println!("{accepted} accepted, {refused:?} refused with 19, 20 and 21");
+    assert!(accepted > 0 && refused.iter().all(|&count| count > 0));
 }
 
 /// How many variables an accepted model has: a branch record has a weight, and an entry

@@ -21,9 +21,8 @@ use Rattle.graph.specs.Simulation.{edgeSize, edgeAt, nodeField, simulationOf}
 use Rattle.graph.specs.Rules.{enabledIn, sameEdges}
 use Rattle.graph.specs.Walks.{startsAt}
 use Rattle.graph.proofs.EdgePlaces.{place-start, place-next}
-use Rattle.expand.specs.Node.{NodeOf, LabelSettled}
-use Rattle.expand.specs.Tests.{trueAt, namesAt}
-use Rattle.expand.proofs.Readings.{true-is}
+use Rattle.expand.specs.Node.{GuardsSettled}
+use Rattle.expand.specs.Tests.{holdsAt, namesAt}
 
 -- ---- the walk
 module _ (M : Model) (g : List ℕ) (n : ℕ) (test : ℕ → Bool) where
@@ -89,8 +88,8 @@ module _ (M : Model) (g : List ℕ) (n : ℕ) (test : ℕ → Bool) where
       (λ r. ap (λ (i : ℕ). tab i command) (sym r) ∙ sym e)
       (same-lists (tab edges command) (passing commands test)))
 
--- The test is that the guard reads true.
-module _ {m g : List ℕ} {n : ℕ} {known : List ℕ} {values : List ℤ} (node : NodeOf m g n) (settled : LabelSettled m g n known values) where
+-- The test is that the guard holds in the state.
+module _ {m g : List ℕ} {n : ℕ} {state : List ℤ} (settled : GuardsSettled m g n state) where
   pub same-edges : {edges commands : ℕ} → edges ≡ nodeField (modelOf m) g n 4 → commands ≡ modelOf m .commands
-      → sameList (tab edges (simulationOf (modelOf m) g .command n)) (passing commands (λ c. trueAt known values (modelOf m .guard c))) ≡ sameEdges (modelOf m) (simulationOf (modelOf m) g) n
-  same-edges p q = rw (p, q, passing-same (modelOf m .commands) (λ c. trueAt known values (modelOf m .guard c)) (enabledIn (modelOf m) (simulationOf (modelOf m) g) n) (λ c l. true-is node settled (node .model .model .commands c l .guard)))
+      → sameList (tab edges (simulationOf (modelOf m) g .command n)) (passing commands (λ c. holdsAt state (modelOf m .guard c))) ≡ sameEdges (modelOf m) (simulationOf (modelOf m) g) n
+  same-edges p q = rw (p, q, passing-same (modelOf m .commands) (λ c. holdsAt state (modelOf m .guard c)) (enabledIn (modelOf m) (simulationOf (modelOf m) g) n) (settled .is))

@@ -17,18 +17,19 @@ use Rattle.folder.proofs.Decides.{all-same, all-both}
 use Rattle.folder.proofs.ScanLaws.{first-same, found-le}
 use Rattle.whole.specs.Order.{eqZ}
 use Rattle.expressions.specs.Reading.{hasBit}
+use Rattle.states.proofs.Entries.{entry-number}
 use Rattle.model.specs.Limits.{mostExpressions}
 use Rattle.model.specs.Layout.{variableCount, branchSize}
 use Rattle.model.specs.Model.{Model, modelOf, firstRecord}
 use Rattle.model.proofs.Chances.{record-there}
 use Rattle.model.proofs.Limits.{limits, records-small}
 use Rattle.graph.specs.Simulation.{Simulation, nodeSize, edgeSize, edgeAt, nodeField, simulationOf}
-use Rattle.graph.specs.Rules.{resultIs, labelFollows, follows, edgeFollows}
-use Rattle.graph.specs.Seconds.{successorFollows, badEdge, secondOf, second21}
+use Rattle.graph.specs.Labels.{concreteState}
+use Rattle.graph.specs.Rules.{resultIs}
 use Rattle.graph.proofs.EdgePlaces.{place-next}
-use Rattle.expand.specs.Node.{NodeOf, LabelSettled, StateSettled, FirstsOf}
+use Rattle.expand.specs.Node.{NodeOf, StateSettled, FirstsOf}
 use Rattle.expand.specs.Tests.{readsAt, Leads, AllLead, resultAt, labelAt, variableFollows, branchFollows, branchAt, apartBy}
-use Rattle.expand.proofs.Readings.{reads-is}
+use Rattle.expand.specs.Follow.{labelFlagged, followsBy, successorBy, edgeBy, badEdgeBy, badRecordBy, apartIn, secondBy, flagsOf}
 
 -- ---- the code's tests of a variable, by their parts
 module _ (vars : ℕ) (nb bs : List ℕ) (from to v : ℕ) {e : ℕ} (pe : e ≡ u16 bs (from + 2 + 2 * v)) where
@@ -41,11 +42,11 @@ module _ (vars : ℕ) (nb bs : List ℕ) (from to v : ℕ) {e : ℕ} (pe : e ≡
       let j : to + 12 + 2 * v ≡ to + 2 * (6 + v) = omega arith in
       rw (p, pv, ps, pc, pe, i, j) refl
 
-  pub label-tested : (known : List ℕ) (values : List ℤ) {set l : ℕ} {label : ℤ} {tracked reading : Bool}
-      → l ≡ u16 nb (to + 12 + 2 * vars + 2 * v) → label ≡ signed16 l → set ≡ u16 nb (to + 10) → tracked ≡ hasBit set v → reading ≡ readsAt known values e label
-      → implies tracked reading ≡ labelAt vars nb bs known values from to v
+  pub label-tested : (known : List ℕ) (state : List ℤ) {set l : ℕ} {label : ℤ} {tracked reading : Bool}
+      → l ≡ u16 nb (to + 12 + 2 * vars + 2 * v) → label ≡ signed16 l → set ≡ u16 nb (to + 10) → tracked ≡ hasBit set v → reading ≡ readsAt known state e label
+      → implies tracked reading ≡ labelAt vars nb bs known state from to v
   unfolding labelAt
-  label-tested known values pl pa pt pb q =
+  label-tested known state pl pa pt pb q =
       let i : from + 2 + 2 * v ≡ from + 2 * (1 + v) = omega arith in
       let k : to + 12 + 2 * vars + 2 * v ≡ to + 2 * (6 + vars + v) = omega arith in
       rw (q, pb, pt, pa, pl, pe, i, k) refl
@@ -57,12 +58,15 @@ entry-there {from = from} {bs = bs} leads v l p =
     rw (p, i) (leads .entries v l)
 
 -- ---- of an accepted model and a node
-module _ {m g : List ℕ} {n : ℕ} {known : List ℕ} {values state : List ℤ} (node : NodeOf m g n) (settled : LabelSettled m g n known values) (stated : StateSettled m g n state) where
+module _ {m g : List ℕ} {n : ℕ} (known : List ℕ) {state : List ℤ} (node : NodeOf m g n) (stated : StateSettled m g n state) where
   abbrev M : Model
   M = modelOf m
 
   abbrev G : Simulation
   G = simulationOf M g
+
+  abbrev flags : ℕ → ℕ → ℕ → Bool
+  flags = labelFlagged M G known state
 
   module _ (r : ℕ) (l : r < M .records) (s : ℕ) where
     abbrev from : ℕ
@@ -73,32 +77,32 @@ module _ {m g : List ℕ} {n : ℕ} {known : List ℕ} {values state : List ℤ}
 
     result-is : (v : ℕ) → v < M .variables → resultAt (M .variables) (body g 0) (body m 4) state from to v ≡ resultIs M G n r s v
     unfolding resultAt resultIs field
-    result-is v k = rw (stated .numbers (M .assigned r v) (node .model .model .branches r l .number v k))
+    result-is v k = let i = node .model .model .branches r l .number v k in rw (stated .is (M .assigned r v) (i .there) ∙ entry-number (M .entries) (concreteState M G n) (M .assigned r v) i)
 
-    label-is : (v : ℕ) → v < M .variables → labelAt (M .variables) (body g 0) (body m 4) known values from to v ≡ labelFollows M G n r s v
-    unfolding labelAt labelFollows field
-    label-is v k = rw (reads-is node settled (node .model .model .branches r l .number v k) (G .label s v))
+    label-is : (v : ℕ) → v < M .variables → labelAt (M .variables) (body g 0) (body m 4) known state from to v ≡ flags r s v
+    unfolding labelAt labelFlagged field
+    label-is v k = refl
 
-    branch-is : branchFollows (M .variables) (body g 0) (body m 4) known values state r s ≡ follows M G n r s
-    unfolding branchFollows variableFollows follows
+    branch-is : branchFollows (M .variables) (body g 0) (body m 4) known state r s ≡ followsBy M G n flags r s
+    unfolding branchFollows variableFollows followsBy
     branch-is =
-        all-same (M .variables) (λ v k. rw (result-is v k, label-is v k) refl) ∙ all-both (M .variables) (resultIs M G n r s) (labelFollows M G n r s)
+        all-same (M .variables) (λ v k. rw (result-is v k, label-is v k) refl) ∙ all-both (M .variables) (resultIs M G n r s) (flags r s)
 
-    apart-is : apartBy (M .variables) (body g 0) (body m 4) known values state r s ≡ secondOf M G n r s
-    unfolding apartBy secondOf
+    apart-is : apartBy (M .variables) (body g 0) (body m 4) known state r s ≡ apartIn M G n flags r s
+    unfolding apartBy apartIn
     apart-is = rw (all-same (M .variables) result-is, first-same _ _ (M .variables) label-is) refl
 
   -- Edge e, whose command is there: its first branch that does not follow.
   module _ (e : ℕ) (l : G .command n e < M .commands) where
-    branch-first : firstBad (branchAt (M .variables) (body g 0) (body m 4) known values state (body g 1) (firstRecord M (G .command n e)) (edgeAt M g n e)) (M .branches (G .command n e))
-        ≡ firstBad (successorFollows M G n e) (M .branches (G .command n e))
+    branch-first : firstBad (branchAt (M .variables) (body g 0) (body m 4) known state (body g 1) (firstRecord M (G .command n e)) (edgeAt M g n e)) (M .branches (G .command n e))
+        ≡ firstBad (successorBy M G n flags e) (M .branches (G .command n e))
     unfolding branchAt
     branch-first = first-same _ _ (M .branches (G .command n e)) (λ b k.
         branch-is (firstRecord M (G .command n e) + b) (record-there M (node .model .model) (G .command n e) b l k) (G .successor n e b))
 
     branch-apart : (b : ℕ) → b < M .branches (G .command n e)
-        → apartBy (M .variables) (body g 0) (body m 4) known values state (firstRecord M (G .command n e) + b) (G .successor n e b)
-        ≡ secondOf M G n (firstRecord M (G .command n e) + b) (G .successor n e b)
+        → apartBy (M .variables) (body g 0) (body m 4) known state (firstRecord M (G .command n e) + b) (G .successor n e b)
+        ≡ apartIn M G n flags (firstRecord M (G .command n e) + b) (G .successor n e b)
     branch-apart b k = apart-is (firstRecord M (G .command n e) + b) (record-there M (node .model .model) (G .command n e) b l k) (G .successor n e b)
 
 -- ---- as the code reads it
@@ -160,12 +164,15 @@ module _ {m g : List ℕ} {n : ℕ} {cs eb : List ℕ} {edges e p c branches : �
     pub records-fit : getD firsts c 0 + branches ≤ fieldLimit
     records-fit = omega (arith, first-is, branches-are, records-small (node .model) _ command-there)
 
-    -- Where the code found no branch that does not follow, the edge follows; else it does not, and if the edges before
-    -- it do, the code has the second place.
-    module _ {known : List ℕ} {values state : List ℤ} (settled : LabelSettled m g n known values) (stated : StateSettled m g n state)
-        {vars : ℕ} {bs nb : List ℕ} (held : Held m g vars bs nb) {b : ℕ} (q : b ≡ firstBad (branchAt vars nb bs known values state eb (getD firsts c 0) p) branches) where
+    -- Where the code found no branch that does not follow, the edge follows, as far as the flags tell; else it does not, and
+    -- if the edges before it do, the code has the branch's record and the second place.
+    module _ (known : List ℕ) {state : List ℤ} (stated : StateSettled m g n state)
+        {vars : ℕ} {bs nb : List ℕ} (held : Held m g vars bs nb) {b : ℕ} (q : b ≡ firstBad (branchAt vars nb bs known state eb (getD firsts c 0) p) branches) where
+      abbrev tells : ℕ → ℕ → ℕ → Bool
+      tells = flagsOf m g known state
+
       abbrev follow : ℕ → Bool
-      follow = successorFollows (modelOf m) (simulationOf (modelOf m) g) n e
+      follow = successorBy (modelOf m) (simulationOf (modelOf m) g) n tells e
 
       abbrev count : ℕ
       count = modelOf m .branches (simulationOf (modelOf m) g .command n e)
@@ -174,19 +181,21 @@ module _ {m g : List ℕ} {n : ℕ} {cs eb : List ℕ} {edges e p c branches : �
       worst = firstBad follow count
 
       first-bad : b ≡ worst
-      first-bad = q ∙ rw (first-is, branches-are, held .variables, held .records-in, held .nodes-in, read .edges-in, read .stands) (branch-first node settled stated e command-there)
+      first-bad = q ∙ rw (first-is, branches-are, held .variables, held .records-in, held .nodes-in, read .edges-in, read .stands) (branch-first known node stated e command-there)
 
-      pub edge-passes : branches ≤ b → true ≡ edgeFollows (modelOf m) (simulationOf (modelOf m) g) n e
-      unfolding edgeFollows
+      pub edge-passes : branches ≤ b → true ≡ edgeBy (modelOf m) (simulationOf (modelOf m) g) n tells e
+      unfolding edgeBy
       edge-passes l = sym (eq-eqb worst count (omega (arith, first-bad, branches-are, found-le follow count first-bad)))
 
-      pub edge-breaks : b < branches → false ≡ edgeFollows (modelOf m) (simulationOf (modelOf m) g) n e
-      unfolding edgeFollows
+      pub edge-breaks : b < branches → false ≡ edgeBy (modelOf m) (simulationOf (modelOf m) g) n tells e
+      unfolding edgeBy
       edge-breaks l = sym (ne-eqb worst count (λ h. omega (arith, first-bad, branches-are)))
 
-      pub second-found : b < branches → e ≡ badEdge (modelOf m) (simulationOf (modelOf m) g) n → {s v : ℕ} → s ≡ u16 eb (p + 2 + 2 * b)
-          → v ≡ apartBy vars nb bs known values state (getD firsts c 0 + b) s → v ≡ second21 (modelOf m) (simulationOf (modelOf m) g) n
-      unfolding second21
-      second-found l h i j =
-          let a = branch-apart node settled stated e command-there b (omega (arith, branches-are)) in
-          j ∙ rw (i, first-is, held .variables, held .records-in, held .nodes-in, read .edges-in, read .stands) (a ∙ rw (first-bad, h) refl)
+      module _ (l : b < branches) (h : e ≡ badEdgeBy (modelOf m) (simulationOf (modelOf m) g) n tells) {r : ℕ} (k : r ≡ getD firsts c 0 + b) where
+        pub branch-found : r ≡ badRecordBy (modelOf m) (simulationOf (modelOf m) g) n tells
+        branch-found = k ∙ rw first-is (rw (first-bad, h) refl)
+
+        pub second-found : {s v : ℕ} → s ≡ u16 eb (p + 2 + 2 * b) → v ≡ apartBy vars nb bs known state r s → v ≡ secondBy (modelOf m) (simulationOf (modelOf m) g) n tells
+        second-found i j =
+            let a = branch-apart known node stated e command-there b (omega (arith, branches-are)) in
+            j ∙ rw (k, i, first-is, held .variables, held .records-in, held .nodes-in, read .edges-in, read .stands) (a ∙ rw (first-bad, h) refl)

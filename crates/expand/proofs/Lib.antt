@@ -3,3 +3,6 @@ pub mod Readings
 pub mod Ready
 pub mod EnabledLaws
 pub mod FollowLaws
+pub mod Asking
+pub mod Opening
+pub mod Guards

@@ -1,40 +1,53 @@
--- What `settle` asks of a node's label, where A1 holds, and of its concrete state; and what its rows are then.
+-- What reading asks of a node's label, where A1 holds, and of its concrete state; and what the rows are then.
 -- Assumes nothing.
-use Prim.Native.Nat.{ℕ, _+_}
-use mathlib.Core.Path.{_≡_, sym, _∙_}
-use mathlib.Core.Bool.{true}
+use Prim.Native.Nat.{ℕ, _+_, _-_, _<_}
+use mathlib.Core.Path.{_≡_, refl, sym, ap, _∙_}
+use mathlib.Core.Bool.{true, false, false≢true}
+use native.Mathlib.Omega.{arith}
+use borrow.Author.Tests.{eq-eqb, eqb-true}
 use mathlib.Core.List.{List, _++_}
-use lib.ListN.{take, drop}
+use lib.ListN.{getD, take, drop}
 use lib.IntN.{ℤ, pos}
 use Rattle.folder.specs.Contents.{body, countOf, signedField}
-use Rattle.folder.specs.Tab.{tab}
+use Rattle.folder.specs.Tab.{tab, fill}
 use Rattle.folder.proofs.Decides.{passes, everywhere, whenever}
 use Rattle.folder.proofs.TabLaws.{getD-tab}
-use Rattle.folder.proofs.FillLaws.{take-filled}
-use Rattle.whole.proofs.Order.{equal-decided}
-use Rattle.expressions.specs.Limits.{allTracked}
+use Rattle.folder.proofs.FillLaws.{take-filled, getD-filled}
+use Rattle.whole.proofs.Order.{equal-decided, to-⊑, ⊑-trans, within}
 use Rattle.expressions.specs.Entries.{entriesOf}
 use Rattle.expressions.specs.Meaning.{valueOf}
 use Rattle.expressions.specs.Reading.{lookIn}
-use Rattle.expressions.proofs.Interval.{In}
+use Rattle.expressions.specs.Ranges.{boundIn}
+use Rattle.expressions.specs.Combinations.{Label, Holds, Proper}
+use Rattle.expressions.specs.declared.Number.{Number}
+use Rattle.expressions.specs.declared.Number.the-variants.{Known, Unknown as Open}
+use Rattle.expressions.proofs.Interval.{In, bound-here}
 use Rattle.evaluate.specs.Formed.{Formed, Ready, Grounded}
-use Rattle.evaluate.specs.Settled.{Settled}
-use Rattle.evaluate.proofs.Readable.{ready}
-use Rattle.evaluate.proofs.Rows.{state-row}
+use Rattle.evaluate.specs.Settled.{flagOf, entryReading, Settled}
+use Rattle.choices.specs.Ranged.{farthestBound, Ranged, labelIn}
+use Rattle.states.specs.Stated.{entryIn}
+use Rattle.states.specs.Read.{readsKnown, Asked, Widened}
+use Rattle.states.proofs.Reading.{stays-known}
 use Rattle.model.specs.Layout.{variableCount}
 use Rattle.model.specs.Model.{Model, modelOf, bound}
+use Rattle.model.specs.Valid.{VariableRight}
 use Rattle.model.proofs.Chances.{in-bounds}
 use Rattle.model.proofs.Limits.{limits}
 use Rattle.graph.specs.Simulation.{Simulation, nodeSize, simulationOf}
-use Rattle.graph.specs.Labels.{tracks, concreteState}
+use Rattle.graph.specs.Labels.{tracks, labelOf, concreteState}
 use Rattle.graph.specs.Rules.{A1}
-use Rattle.graph.proofs.Labelled.{tracked-there, concrete-in-range}
-use Rattle.expand.specs.Node.{NodeOf, StateSettled}
+use Rattle.graph.proofs.Decided.{a1-decided}
+use Rattle.graph.proofs.Labelled.{tracked-there, concrete-in-range, proper, holds}
+use Rattle.expand.specs.Node.{NodeOf, LabelFlagged, LabelWidened, StateSettled, NodeRead, MasksOf}
+use Rattle.expand.specs.Tests.{knownAt}
 
 -- The same body, set and values by other names.
 pub settled-as : {x y : List ℕ} {t u : ℕ} {v w : List ℤ} {known : List ℕ} {values : List ℤ} → x ≡ y → t ≡ u → v ≡ w
     → Settled (entriesOf x) (lookIn t v) (countOf 8 x) known values → Settled (entriesOf y) (lookIn u w) (countOf 8 y) known values
 settled-as p q r s = rw (sym p, sym q, sym r) s
+
+pub grounded-as : {x y : List ℕ} {v w : List ℤ} → x ≡ y → v ≡ w → Grounded (entriesOf y) w → Grounded (entriesOf x) v
+grounded-as p q s = rw (p, q) s
 
 pub ready-as : {x y : List ℕ} {t u : ℕ} {v w : List ℤ} → x ≡ y → t ≡ u → v ≡ w → Ready (entriesOf y) u w → Ready (entriesOf x) t v
 ready-as p q r s = rw (p, q, r) s
@@ -71,12 +84,11 @@ module _ {m g : List ℕ} {n : ℕ} (node : NodeOf m g n) where
     high = λ i. inside i .high;
   }
 
-  pub state-ready : Ready (M .entries) allTracked (concreteState M G n)
-  state-ready = ready (M .entries) (concreteState M G n) state-grounded
-
-  -- Rows that are settled in the state have its numbers.
-  pub state-settled : {known : List ℕ} {values : List ℤ} → Settled (M .entries) (lookIn allTracked (concreteState M G n)) (M .entries .count) known values → StateSettled m g n values
-  state-settled {known} {values} s = state-row (M .entries) (concreteState M G n) state-grounded known values s
+  -- A row that is filled with what entries are in the state.
+  pub state-settled : (d : List ℤ) {x : List ℕ} {v row : List ℤ} → x ≡ body m 2 → v ≡ concreteState M G n → row ≡ fill (countOf 8 x) (entryIn (entriesOf x) v) d → StateSettled m g n row
+  state-settled d {row = row} p q e = record {
+    is = λ k l. ap (λ (r : List ℤ). getD r k (pos 0)) (rw (p, q) at e) ∙ getD-filled (pos 0) (M .entries .count) (entryIn (M .entries) (concreteState M G n)) d k l;
+  }
 
   -- ---- the label: where A1 holds, its tracked values are the state's
   agrees : A1 M G n ≡ true → (i : ℕ) → tracks G n i ≡ true → valueOf (tab (M .variables) (G .label n)) i ≡ valueOf (concreteState M G n) i
@@ -94,3 +106,78 @@ module _ {m g : List ℕ} {n : ℕ} (node : NodeOf m g n) where
     formed = formed;
     values = record { low = λ i t. rw (agrees h i t) (inside i .low); high = λ i t. rw (agrees h i t) (inside i .high) };
   }
+
+  -- ---- its ranges
+  bound-is : bound M ≡ boundIn (body m 1)
+  unfolding bound boundIn
+  bound-is = refl
+
+  pub ranged : Ranged (body m 1)
+  ranged = record {
+    few = limits (node .model .folder) .variables;
+    ordered = λ v l. rw (← bound-here (body m 1) v refl l) (right v l .ordered);
+    low-small = λ v l. rw (← bound-here (body m 1) v refl l) (within (farthestBound - 1) (M .low v) (to-⊑ (right v l .least)) (⊑-trans (to-⊑ (right v l .ordered)) (to-⊑ (right v l .most))));
+    high-small = λ v l. rw (← bound-here (body m 1) v refl l) (within (farthestBound - 1) (M .high v) (⊑-trans (to-⊑ (right v l .least)) (to-⊑ (right v l .ordered))) (to-⊑ (right v l .most)));
+  }
+    where
+      right : (v : ℕ) → v < M .variables → VariableRight M v
+      right = node .model .model .variables
+
+  -- ---- the label as those see it who read by all states
+  abbrev inBodies : Label
+  inBodies = labelIn (body m 1) (G .tracked n) (tab (M .variables) (G .label n))
+
+  label-is : labelOf M G n ≡ inBodies
+  label-is i = record { variables = M .variables; bound = bound-is i; tracked = G .tracked n; values = tab (M .variables) (G .label n) }
+
+  module _ (h : A1 M G n ≡ true) where
+    pub label-proper : Proper (labelOf M G n)
+    label-proper = proper M G n (node .rows .content .nodes n (node .there)) (a1-decided M G n .yes h)
+
+    pub own-holds : Holds (labelOf M G n) (concreteState M G n)
+    own-holds = holds M G n (concreteState M G n) (record {
+      state = concrete-in-range M G n (node .rows .content .nodes n (node .there));
+      agrees = λ v p t. getD-tab (pos 0) (M .variables) (G .concrete n) v p ∙ sym (a1-decided M G n .yes h v p t);
+    })
+
+    -- What reads known three ways is flagged rightly.
+    pub label-flagged : {known : List ℕ} {values : List ℤ} → Settled (M .entries) (lookIn (G .tracked n) (tab (M .variables) (G .label n))) (M .entries .count) known values → LabelFlagged m g n known
+    label-flagged {known} s = record {
+      sound = λ e l u. known-so e l (entryReading (M .entries) (lookIn (G .tracked n) (tab (M .variables) (G .label n))) e) refl (sym (s .flags e l) ∙ u);
+      unknown = λ e l d. open-so (entryReading (M .entries) (lookIn (G .tracked n) (tab (M .variables) (G .label n))) e) (λ u. d (s .flags e l ∙ u));
+    }
+      where
+        open-so : (a : Number) → (flagOf a ≡ 1 → ⊥) → a ≡ Open
+        open-so (Known z) d = absurd (d refl)
+        open-so Open d = refl
+
+        known-so : (e : ℕ) → e < M .entries .count → (a : Number) → entryReading (M .entries) (lookIn (G .tracked n) (tab (M .variables) (G .label n))) e ≡ a → flagOf a ≡ 1 → readsKnown (M .entries) (labelOf M G n) e ≡ true
+        known-so e l (Known z) q k = stays-known (M .entries) (labelOf M G n) e (M .variables) (formed .right e l) label-proper z q
+        known-so e l Open q k = absurd (omega arith)
+
+    module _ {known : List ℕ} {state : List ℤ} (read : NodeRead m g n known state) {masks : List ℕ} (masked : MasksOf m masks) {e : ℕ} (l : e < M .entries .count) (down : knownAt known e ≡ false) where
+      asked-here : Asked (M .entries) (body m 1) (tab (M .variables) (G .label n)) masks state known e (G .tracked n)
+      unfolding knownAt
+      asked-here = record {
+        readable = record { formed = rw (← bound-is) formed; ranged = ranged; proper = rw (← label-is) label-proper };
+        masked = masked;
+        concrete = record { own = concreteState M G n; holds = rw (← label-is) own-holds; row = read .stated };
+        flagged = rw (← label-is) (read .flagged);
+        few = limits (node .model .folder) .expressions;
+        long = omega (arith, limits (node .model .folder) .expressions, read .known-long);
+        there = l;
+        down = λ u. false≢true (sym down ∙ eq-eqb (getD known e 0) 1 u);
+      }
+
+      module _ {x y : List ℕ} {v : List ℤ} {t : ℕ} (px : x ≡ body m 2) (py : y ≡ body m 1) (pv : v ≡ tab (M .variables) (G .label n)) (pt : t ≡ G .tracked n) where
+        pub asked-as : Asked (entriesOf x) y v masks state known e t
+        asked-as = rw (px, py, pv, pt) asked-here
+
+        pub widened-as : {after : List ℕ} → Widened (entriesOf x) (labelIn y t v) e known after → LabelWidened m g n e known after
+        widened-as w = rw label-is (rw (px, py, pv, pt) at w)
+
+-- An entry that is flagged already.
+module _ {m g : List ℕ} {n : ℕ} {known : List ℕ} {state : List ℤ} (read : NodeRead m g n known state) {e : ℕ} (l : e < modelOf m .entries .count) where
+  pub widened-up : knownAt known e ≡ true → LabelWidened m g n e known known
+  unfolding knownAt
+  widened-up k = record { flagged = read .flagged; more = λ i u. u; decided = k ∙ sym (read .flagged .sound e l (eqb-true (getD known e 0) 1 k)) }

@@ -1,2 +1,3 @@
-pub mod Node
 pub mod Tests
+pub mod Node
+pub mod Follow

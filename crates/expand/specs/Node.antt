@@ -6,13 +6,16 @@ use mathlib.Core.List.{List}
 use lib.ListN.{length, getD}
 use lib.IntN.{ℤ}
 use Rattle.mentions.specs.Masked.{Masked}
-use Rattle.evaluate.specs.Settled.{Settled, StateRow}
+use Rattle.states.specs.Stated.{StateRow}
+use Rattle.states.specs.Read.{Flagged, Widened}
 use Rattle.model.specs.Limits.{mostExpressions}
 use Rattle.model.specs.Model.{modelOf, firstRecord}
 use Rattle.model.specs.Valid.{Valid}
 use Rattle.graph.specs.Simulation.{nodeCount, simulationOf}
-use Rattle.graph.specs.Labels.{look, concreteState}
+use Rattle.graph.specs.Labels.{labelOf, concreteState}
+use Rattle.graph.specs.Rules.{enabledIn}
 use Rattle.graph.specs.Valid.{RowsRight}
+use Rattle.expand.specs.Tests.{holdsAt}
 
 module _ (m g : List ℕ) (n : ℕ) where
   -- The model folder m is accepted, rows 12 to 17 hold of the graph folder g, and n is one of its nodes.
@@ -21,17 +24,32 @@ module _ (m g : List ℕ) (n : ℕ) where
     pub rows : RowsRight (modelOf m) g
     pub there : n < nodeCount (modelOf m) g
 
-  -- The rows have how each entry reads in the node's label.
-  abbrev pub LabelSettled : List ℕ → List ℤ → Type 0
-  LabelSettled known values = Settled (modelOf m .entries) (look (modelOf m) (simulationOf (modelOf m) g) n) (modelOf m .entries .count) known values
+  -- The row flags entries that read known in the node's label; the others are not known three ways.
+  abbrev pub LabelFlagged : List ℕ → Type 0
+  LabelFlagged known = Flagged (modelOf m .entries) (labelOf (modelOf m) (simulationOf (modelOf m) g) n) known
+
+  -- It is as sound after entry e was asked, none is lowered, and e is flagged if it reads known, and only then.
+  abbrev pub LabelWidened : ℕ → List ℕ → List ℕ → Type 0
+  LabelWidened e before after = Widened (modelOf m .entries) (labelOf (modelOf m) (simulationOf (modelOf m) g) n) e before after
 
   -- The row has what each entry is in the node's concrete state.
   abbrev pub StateSettled : List ℤ → Type 0
   StateSettled state = StateRow (modelOf m .entries) (concreteState (modelOf m) (simulationOf (modelOf m) g) n) state
 
+  -- Both rows, with a place for each expression that a model may have.
+  pub record NodeRead (known : List ℕ) (state : List ℤ) : Type 0 where
+    pub flagged : LabelFlagged known
+    pub stated : StateSettled state
+    pub known-long : mostExpressions ≤ length known
+    pub state-long : mostExpressions ≤ length state
+
+  -- Each guard reads true exactly where it holds in the state.
+  pub record GuardsSettled (state : List ℤ) : Type 0 where
+    pub is : (c : ℕ) → c < modelOf m .commands → holdsAt state (modelOf m .guard c) ≡ enabledIn (modelOf m) (simulationOf (modelOf m) g) n c
+
 -- The rows have a place for each expression that a model may have.
-abbrev pub RowsLong : List ℕ → List ℤ → List ℤ → Type 0
-RowsLong known values state = (mostExpressions ≤ length known) × (mostExpressions ≤ length values) × (mostExpressions ≤ length state)
+abbrev pub RowsLong : List ℕ → List ℤ → Type 0
+RowsLong known state = (mostExpressions ≤ length known) × (mostExpressions ≤ length state)
 
 -- The row has what each entry mentions.
 abbrev pub MasksOf : List ℕ → List ℕ → Type 0

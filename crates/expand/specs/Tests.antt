@@ -1,7 +1,7 @@
 -- The tests that the code makes of the rows and of the bodies.
 -- Assumes nothing.
 use Prim.Native.Nat.{ℕ, _+_, _*_, _<_, _≤_}
-use mathlib.Core.Bool.{Bool, _&&_, not}
+use mathlib.Core.Bool.{Bool, _&&_}
 use mathlib.Core.List.{List}
 use lib.Dec.{ltb, eqb}
 use lib.ListN.{getD, length}
@@ -16,18 +16,15 @@ use Rattle.model.specs.Limits.{mostExpressions}
 use Rattle.model.specs.Layout.{branchSize}
 use Rattle.graph.specs.Simulation.{nodeSize, commandIn, successorIn}
 
--- Entry e reads known, false, or known with the value z, which is 1 for true.
+-- Entry e is flagged; it holds in the state; it is flagged, and is z there.
 unfoldable pub knownAt : List ℕ → ℕ → Bool
 knownAt known e = eqb (getD known e 0) 1
 
-unfoldable pub falseAt : List ℕ → List ℤ → ℕ → Bool
-falseAt known values e = knownAt known e && not (eqZ (getD values e (pos 0)) (pos 1))
+unfoldable pub holdsAt : List ℤ → ℕ → Bool
+holdsAt state e = eqZ (getD state e (pos 0)) (pos 1)
 
 unfoldable pub readsAt : List ℕ → List ℤ → ℕ → ℤ → Bool
-readsAt known values e z = knownAt known e && eqZ (getD values e (pos 0)) z
-
-abbrev pub trueAt : List ℕ → List ℤ → ℕ → Bool
-trueAt known values e = readsAt known values e (pos 1)
+readsAt known state e z = knownAt known e && eqZ (getD state e (pos 0)) z
 
 -- Edge k of a node that has `edges` of them, which stands at p, is there and names the command c.
 abbrev pub namesAt : List ℕ → ℕ → ℕ → ℕ → ℕ → Bool
@@ -46,12 +43,12 @@ module _ (variables : ℕ) (nb bs : List ℕ) where
   resultAt state from to v = eqZ (i16 nb (to + 2 * (6 + v))) (getD state (u16 bs (from + 2 * (1 + v))) (pos 0))
 
   unfoldable pub labelAt : List ℕ → List ℤ → ℕ → ℕ → ℕ → Bool
-  labelAt known values from to v =
-      implies (hasBit (u16 nb (to + 2 * 5)) v) (readsAt known values (u16 bs (from + 2 * (1 + v))) (i16 nb (to + 2 * (6 + variables + v))))
+  labelAt known state from to v =
+      implies (hasBit (u16 nb (to + 2 * 5)) v) (readsAt known state (u16 bs (from + 2 * (1 + v))) (i16 nb (to + 2 * (6 + variables + v))))
 
-  module _ (known : List ℕ) (values state : List ℤ) where
+  module _ (known : List ℕ) (state : List ℤ) where
     unfoldable pub variableFollows : ℕ → ℕ → ℕ → Bool
-    variableFollows from to v = resultAt state from to v && labelAt known values from to v
+    variableFollows from to v = resultAt state from to v && labelAt known state from to v
 
     -- All variables, of branch record r and node s; and branch b of the edge at p, whose records stand from `first` on.
     unfoldable pub branchFollows : ℕ → ℕ → Bool
@@ -64,7 +61,7 @@ module _ (variables : ℕ) (nb bs : List ℕ) where
     unfoldable pub apartBy : ℕ → ℕ → ℕ
     apartBy r s =
         pick (all (resultAt state (branchSize variables * r) (nodeSize variables * s)) variables)
-        (firstBad (labelAt known values (branchSize variables * r) (nodeSize variables * s)) variables) noVariable
+        (firstBad (labelAt known state (branchSize variables * r) (nodeSize variables * s)) variables) noVariable
 
   -- All branches of the edge at p lead so.
   pub record AllLead (eb : List ℕ) (first branches p : ℕ) : Type 0 where

@@ -1,33 +1,36 @@
-// The rules of a node that read expressions: A2, B1 and B2, rows 19 to 21 of the table. How entries read is settled
-// before, once for the node: `known` and `values` for its label, and `state` for its concrete state.
-use expressions::ALL_TRACKED;
+// The rules of a node that read expressions: A2, B1 and B2, rows 19 to 21 of the table. What entries are in its concrete
+// state stands in `state`, and `known` flags those that read known in its label, three ways at first; what a rule asks and
+// does not find flagged is read by all states then. A known entry is in every state of the label what it is in this one.
+use expressions::MOST_EXPRESSIONS;
 use expressions::MOST_VARIABLES;
 use expressions::NO_VARIABLE;
-use expressions::TruthReading;
 use graph::EXPANDED;
 use graph::TARGET;
 ghost use mathlib.Core.Path.{_≡_};
-ghost use mathlib.Core.Bool.{true, false};
+ghost use mathlib.Core.Bool.{true, false, not};
 ghost use Prim.Native.Nat.{_+_, _*_, _<_, _≤_, _^_};
 ghost use lib.ListN.{length, getD};
 ghost use lib.IntN.{pos};
 ghost use Rattle.folder.specs.Fields.{fieldLimit, u16, signed16};
 ghost use Rattle.folder.specs.Contents.{field};
+ghost use Rattle.folder.specs.Pick.{pick};
 ghost use Rattle.folder.specs.Scan.{all, firstBad};
 ghost use Rattle.folder.specs.Tab.{fill};
 ghost use Rattle.expressions.specs.Mentions.{lacked};
+ghost use Rattle.expressions.specs.Reading.{isKnown};
 ghost use Rattle.expressions.specs.Right.{IsTruth};
 ghost use Rattle.model.specs.Limits.{mostVariables, mostExpressions, mostCommands};
 ghost use Rattle.model.specs.Layout.{branchSize};
 ghost use Rattle.model.specs.Model.{modelOf};
 ghost use Rattle.model.specs.Valid.{Valid};
 ghost use Rattle.graph.specs.Simulation.{nodeSize, nodeField, simulationOf};
-ghost use Rattle.graph.specs.Labels.{readingOf};
+ghost use Rattle.graph.specs.Labels.{truthOf, readingOf};
 ghost use Rattle.graph.specs.Rules.{A1, A2, sameEdges, B1, edgesFollow, B2};
-ghost use Rattle.graph.specs.Seconds.{second19, second21};
+ghost use Rattle.graph.specs.Seconds.{openGuard, second19, second21};
 ghost use Rattle.graph.specs.Walks.{startsAt};
-ghost use Rattle.expand.specs.Node.{NodeOf, LabelSettled, StateSettled, FirstsOf, MasksOf, RowsLong};
-ghost use Rattle.expand.specs.Tests.{knownAt, falseAt, readsAt, namesAt, Leads, AllLead, resultAt, labelAt, variableFollows, branchFollows, branchAt, apartBy};
+ghost use Rattle.expand.specs.Node.{NodeOf, LabelFlagged, LabelWidened, StateSettled, NodeRead, GuardsSettled, FirstsOf, MasksOf, RowsLong};
+ghost use Rattle.expand.specs.Tests.{knownAt, holdsAt, readsAt, namesAt, Leads, AllLead, resultAt, labelAt, variableFollows, branchFollows, branchAt, apartBy};
+ghost use Rattle.expand.specs.Follow.{targetReads, edgesBy, badRecordBy, secondBy, flagsOf, openEntry};
 
 // Fills the front of a row with the values of node n whose first is field f: 6 for the concrete label, and as many more
 // as there are variables for the abstract one.
@@ -65,12 +68,12 @@ fn node_field(m: &[u8], g: &[u8], n: usize, f: usize) -> usize
     )
 }
 
-// Settles how entries read in the label of node n, where A1 holds.
+// Flags what reads known three ways in the label of node n, where A1 holds. `values` is room for what it reads.
 pub fn settle_label(m: &[u8], g: &[u8], n: usize, known: &mut [u8], values: &mut [i64])
     requires { ⌜ NodeOf (now m) (now g) n ⌝ }
     requires { ⌜ A1 (modelOf (now m)) (simulationOf (modelOf (now m)) (now g)) n ≡ true ⌝ }
     requires { ⌜ (mostExpressions ≤ length (now known)) × (mostExpressions ≤ length (now values)) ⌝ }
-    ensures { λ _. ⌜ LabelSettled (now (m .entry)) (now (g .entry)) n (now (known .exit)) (now (values .exit)) ⌝ }
+    ensures { λ _. ⌜ LabelFlagged (now (m .entry)) (now (g .entry)) n (now (known .exit)) ⌝ }
 {
     let vars = graph::variable_count(m);
     let set = node_field(m, g, n, 5);
@@ -82,10 +85,10 @@ pub fn settle_label(m: &[u8], g: &[u8], n: usize, known: &mut [u8], values: &mut
     evaluate::settle(x, set, &row[..vars], known, values);
 }
 
-// And what they are in its concrete state. All of them read known there, so that `known` is not looked at again.
-pub fn settle_state(m: &[u8], g: &[u8], n: usize, known: &mut [u8], state: &mut [i64])
+// What entries are in its concrete state.
+pub fn settle_state(m: &[u8], g: &[u8], n: usize, state: &mut [i64])
     requires { ⌜ NodeOf (now m) (now g) n ⌝ }
-    requires { ⌜ (mostExpressions ≤ length (now known)) × (mostExpressions ≤ length (now state)) ⌝ }
+    requires { ⌜ mostExpressions ≤ length (now state) ⌝ }
     ensures { λ _. ⌜ StateSettled (now (m .entry)) (now (g .entry)) n (now (state .exit)) ⌝ }
 {
     let vars = graph::variable_count(m);
@@ -93,36 +96,82 @@ pub fn settle_state(m: &[u8], g: &[u8], n: usize, known: &mut [u8], state: &mut 
     let nb = folder::body(g, 0);
     let mut row = [0i64; MOST_VARIABLES];
     load_row(nb, vars, n, 6, &mut row);
-    evaluate::settle(x, ALL_TRACKED, &row[..vars], known, state);
+    states::fill_state(x, &row[..vars], state);
 }
 
-// Entry e reads known; false; and known with the value z, which is 1 for true.
+// Entry e is flagged.
 fn known_at(known: &[u8], e: usize) -> bool
     ensures { λ r. ⌜ r ≡ knownAt (now (known .entry)) e ⌝ }
 {
     folder::byte_at(known, e) == 1
 }
 
-fn false_at(known: &[u8], values: &[i64], e: usize) -> bool
-    ensures { λ r. ⌜ r ≡ falseAt (now (known .entry)) (now (values .entry)) e ⌝ }
+// And it holds in the state.
+fn holds_at(state: &[i64], e: usize) -> bool
+    ensures { λ r. ⌜ r ≡ holdsAt (now (state .entry)) e ⌝ }
 {
-    known_at(known, e) & !whole::equal(evaluate::value_at(values, e), 1)
+    whole::equal(evaluate::value_at(state, e), 1)
 }
 
-fn reads_at(known: &[u8], values: &[i64], e: usize, z: i64) -> bool
-    ensures { λ r. ⌜ r ≡ readsAt (now (known .entry)) (now (values .entry)) e z ⌝ }
+// Reads entry e, which is not flagged, by all states of the label of node n.
+fn widen(m: &[u8], g: &[u8], n: usize, masks: &[u16], state: &[i64], e: usize, known: &mut [u8])
+    requires { ⌜ NodeOf (now m) (now g) n ⌝ }
+    requires { ⌜ A1 (modelOf (now m)) (simulationOf (modelOf (now m)) (now g)) n ≡ true ⌝ }
+    requires { ⌜ MasksOf (now m) (now masks) ⌝ }
+    requires { ⌜ NodeRead (now m) (now g) n (now known) (now state) ⌝ }
+    requires { ⌜ (e < modelOf (now m) .entries .count) × (knownAt (now known) e ≡ false) ⌝ }
+    ensures { λ _. ⌜ LabelWidened (now (m .entry)) (now (g .entry)) n e (now (known .entry)) (now (known .exit)) ⌝ }
 {
-    known_at(known, e) & whole::equal(evaluate::value_at(values, e), z)
+    let vars = graph::variable_count(m);
+    let set = node_field(m, g, n, 5);
+    let nb = folder::body(g, 0);
+    let first = 6 + vars;
+    let mut row = [0i64; MOST_VARIABLES];
+    load_row(nb, vars, n, first, &mut row);
+    let x = folder::body(m, 2);
+    let y = folder::body(m, 1);
+    states::widen(x, y, set, &row[..vars], masks, state, e, known);
 }
 
-// The first of the commands in their body whose guard does not read known; their count if each does.
-fn open_guard(cs: &[u8], commands: usize, known: &[u8]) -> usize
-    requires { ⌜ commands ≤ fieldLimit ⌝ }
-    ensures { λ r. ⌜ r ≡ firstBad (λ c. knownAt (now (known .entry)) (field 4 (now (cs .entry)) c 0)) commands ⌝ }
+// Whether entry e reads known in the label of node n.
+fn ask(
+    m: &[u8],
+    g: &[u8],
+    n: usize,
+    masks: &[u16],
+    state: &[i64],
+    e: usize,
+    known: &mut [u8],
+) -> bool
+    requires { ⌜ NodeOf (now m) (now g) n ⌝ }
+    requires { ⌜ A1 (modelOf (now m)) (simulationOf (modelOf (now m)) (now g)) n ≡ true ⌝ }
+    requires { ⌜ MasksOf (now m) (now masks) ⌝ }
+    requires { ⌜ NodeRead (now m) (now g) n (now known) (now state) ⌝ }
+    requires { ⌜ e < modelOf (now m) .entries .count ⌝ }
+    ensures { λ _. ⌜ LabelWidened (now (m .entry)) (now (g .entry)) n e (now (known .entry)) (now (known .exit)) ⌝ }
+    ensures { λ r. ⌜ r ≡ knownAt (now (known .exit)) e ⌝ }
 {
+    if known_at(known, e) {
+        return true;
+    }
+    widen(m, g, n, masks, state, e, known);
+    known_at(known, e)
+}
+
+// The first of the commands whose guard does not read known; their count if each does.
+fn open_guard(m: &[u8], g: &[u8], n: usize, masks: &[u16], state: &[i64], known: &mut [u8]) -> usize
+    requires { ⌜ NodeOf (now m) (now g) n ⌝ }
+    requires { ⌜ A1 (modelOf (now m)) (simulationOf (modelOf (now m)) (now g)) n ≡ true ⌝ }
+    requires { ⌜ MasksOf (now m) (now masks) ⌝ }
+    requires { ⌜ NodeRead (now m) (now g) n (now known) (now state) ⌝ }
+    ensures { λ r. ⌜ r ≡ openGuard (modelOf (now (m .entry))) (simulationOf (modelOf (now (m .entry))) (now (g .entry))) n ⌝ }
+    ensures { λ _. ⌜ LabelFlagged (now (m .entry)) (now (g .entry)) n (now (known .exit)) ⌝ }
+{
+    let cs = folder::body(m, 3);
+    let commands = command_count(m);
     let mut c = 0;
     while c < commands {
-        if known_at(known, folder::field(4, cs, c, 0)) {
+        if ask(m, g, n, masks, state, folder::field(4, cs, c, 0), known) {
             c += 1;
         } else {
             return c;
@@ -131,89 +180,112 @@ fn open_guard(cs: &[u8], commands: usize, known: &[u8]) -> usize
     c
 }
 
-// The variable of a reading that lacks one.
-fn lacked_by(r: TruthReading) -> usize
-    ensures { λ v. ⌜ v ≡ lacked r ⌝ }
-{
-    match r {
-        TruthReading::True => NO_VARIABLE,
-        TruthReading::False => NO_VARIABLE,
-        TruthReading::Lacks(v) => v,
-    }
-}
-
 // A rule of a node: whether it holds, and if not, the second place of its refusal.
 pub struct Kept {
     pub holds: bool,
     pub second: usize,
 }
 
-// A2 broken by entry e, a guard or the target: what it lacks in the label of node n.
-fn broken_by(
-    m: &[u8],
-    g: &[u8],
-    n: usize,
-    known: &[u8],
-    values: &[i64],
-    masks: &[u16],
-    e: usize,
-) -> Kept
+// A2 broken by entry e, a guard or the target: the variable that it lacks in the label of node n; none if it reads known.
+fn broken_by(m: &[u8], g: &[u8], n: usize, masks: &[u16], e: usize, definite: bool) -> Kept
     requires { ⌜ NodeOf (now m) (now g) n ⌝ }
-    requires { ⌜ LabelSettled (now m) (now g) n (now known) (now values) ⌝ }
     requires { ⌜ MasksOf (now m) (now masks) ⌝ }
     requires { ⌜ IsTruth (modelOf (now m) .entries) e ⌝ }
+    requires { ⌜ definite ≡ isKnown (truthOf (modelOf (now m)) (simulationOf (modelOf (now m)) (now g)) n e) ⌝ }
     ensures { λ r. ⌜ (r .holds ≡ false) × (r .second ≡ lacked (readingOf (modelOf (now (m .entry))) (simulationOf (modelOf (now (m .entry))) (now (g .entry))) n e)) ⌝ }
 {
+    if definite {
+        return Kept {
+            holds: false,
+            second: NO_VARIABLE,
+        };
+    }
     let vars = graph::variable_count(m);
     let set = node_field(m, g, n, 5);
-    let second = lacked_by(evaluate::settled_reading(known, values, vars, masks, set, e));
+    let second = mentions::missing_of(vars, mentions::mask_at(masks, e), set);
     Kept {
         holds: false,
         second,
     }
 }
 
-// A2 of an expanded node: its guards by command, then the target.
-fn expanded_kept(m: &[u8], g: &[u8], n: usize, known: &[u8], values: &[i64], masks: &[u16]) -> Kept
-    requires { ⌜ NodeOf (now m) (now g) n ⌝ }
-    requires { ⌜ LabelSettled (now m) (now g) n (now known) (now values) ⌝ }
-    requires { ⌜ MasksOf (now m) (now masks) ⌝ }
-    requires { ⌜ simulationOf (modelOf (now m)) (now g) .kind n ≡ 1 ⌝ }
-    ensures { λ r. ⌜ (r .holds ≡ A2 (modelOf (now (m .entry))) (simulationOf (modelOf (now (m .entry))) (now (g .entry))) n) × (r .holds ≡ false → r .second ≡ second19 (modelOf (now (m .entry))) (simulationOf (modelOf (now (m .entry))) (now (g .entry))) n) ⌝ }
+// A truth is as it is due.
+fn as_due(holds: bool, due: bool) -> bool
+    ensures { λ r. ⌜ r ≡ pick due holds (not holds) ⌝ }
 {
-    let cs = folder::body(m, 3);
-    let commands = command_count(m);
-    let c = open_guard(cs, commands, known);
-    if c < commands {
-        let guard = folder::field(4, cs, c, 0);
-        return broken_by(m, g, n, known, values, masks, guard);
-    }
+    if due { holds } else { !holds }
+}
+
+// The target of node n reads as it must, true or not.
+fn target_kept(
+    m: &[u8],
+    g: &[u8],
+    n: usize,
+    masks: &[u16],
+    state: &[i64],
+    due: bool,
+    known: &mut [u8],
+) -> Kept
+    requires { ⌜ NodeOf (now m) (now g) n ⌝ }
+    requires { ⌜ A1 (modelOf (now m)) (simulationOf (modelOf (now m)) (now g)) n ≡ true ⌝ }
+    requires { ⌜ MasksOf (now m) (now masks) ⌝ }
+    requires { ⌜ NodeRead (now m) (now g) n (now known) (now state) ⌝ }
+    ensures { λ r. ⌜ (r .holds ≡ targetReads (modelOf (now (m .entry))) (simulationOf (modelOf (now (m .entry))) (now (g .entry))) n due) × (r .holds ≡ false → r .second ≡ lacked (readingOf (modelOf (now (m .entry))) (simulationOf (modelOf (now (m .entry))) (now (g .entry))) n (modelOf (now (m .entry)) .target))) ⌝ }
+    ensures { λ _. ⌜ LabelFlagged (now (m .entry)) (now (g .entry)) n (now (known .exit)) ⌝ }
+{
     let target = folder::field(4, folder::body(m, 0), 0, 1);
-    if false_at(known, values, target) {
+    if !ask(m, g, n, masks, state, target, known) {
+        return broken_by(m, g, n, masks, target, false);
+    }
+    if as_due(holds_at(state, target), due) {
         return Kept {
             holds: true,
             second: 0,
         };
     }
-    broken_by(m, g, n, known, values, masks, target)
+    broken_by(m, g, n, masks, target, true)
+}
+
+// A2 of an expanded node: its guards by command, then the target.
+fn expanded_kept(
+    m: &[u8],
+    g: &[u8],
+    n: usize,
+    masks: &[u16],
+    state: &[i64],
+    known: &mut [u8],
+) -> Kept
+    requires { ⌜ NodeOf (now m) (now g) n ⌝ }
+    requires { ⌜ A1 (modelOf (now m)) (simulationOf (modelOf (now m)) (now g)) n ≡ true ⌝ }
+    requires { ⌜ MasksOf (now m) (now masks) ⌝ }
+    requires { ⌜ NodeRead (now m) (now g) n (now known) (now state) ⌝ }
+    requires { ⌜ simulationOf (modelOf (now m)) (now g) .kind n ≡ 1 ⌝ }
+    ensures { λ r. ⌜ (r .holds ≡ A2 (modelOf (now (m .entry))) (simulationOf (modelOf (now (m .entry))) (now (g .entry))) n) × (r .holds ≡ false → r .second ≡ second19 (modelOf (now (m .entry))) (simulationOf (modelOf (now (m .entry))) (now (g .entry))) n) ⌝ }
+    ensures { λ _. ⌜ LabelFlagged (now (m .entry)) (now (g .entry)) n (now (known .exit)) ⌝ }
+{
+    let c = open_guard(m, g, n, masks, state, known);
+    if c < command_count(m) {
+        let guard = folder::field(4, folder::body(m, 3), c, 0);
+        return broken_by(m, g, n, masks, guard, false);
+    }
+    target_kept(m, g, n, masks, state, false, known)
 }
 
 // Row 19.
-pub fn a2(m: &[u8], g: &[u8], n: usize, known: &[u8], values: &[i64], masks: &[u16]) -> Kept
+pub fn a2(m: &[u8], g: &[u8], n: usize, masks: &[u16], state: &[i64], known: &mut [u8]) -> Kept
     requires { ⌜ NodeOf (now m) (now g) n ⌝ }
-    requires { ⌜ LabelSettled (now m) (now g) n (now known) (now values) ⌝ }
+    requires { ⌜ A1 (modelOf (now m)) (simulationOf (modelOf (now m)) (now g)) n ≡ true ⌝ }
     requires { ⌜ MasksOf (now m) (now masks) ⌝ }
+    requires { ⌜ NodeRead (now m) (now g) n (now known) (now state) ⌝ }
     ensures { λ r. ⌜ (r .holds ≡ A2 (modelOf (now (m .entry))) (simulationOf (modelOf (now (m .entry))) (now (g .entry))) n) × (r .holds ≡ false → r .second ≡ second19 (modelOf (now (m .entry))) (simulationOf (modelOf (now (m .entry))) (now (g .entry))) n) ⌝ }
+    ensures { λ _. ⌜ LabelFlagged (now (m .entry)) (now (g .entry)) n (now (known .exit)) ⌝ }
 {
     let kind = node_field(m, g, n, 0);
     if kind == EXPANDED {
-        return expanded_kept(m, g, n, known, values, masks);
+        return expanded_kept(m, g, n, masks, state, known);
     }
     if kind == TARGET {
-        let target = folder::field(4, folder::body(m, 0), 0, 1);
-        if !reads_at(known, values, target, 1) {
-            return broken_by(m, g, n, known, values, masks, target);
-        }
+        return target_kept(m, g, n, masks, state, true, known);
     }
     Kept {
         holds: true,
@@ -229,11 +301,12 @@ fn names_at(eb: &[u8], edges: usize, k: usize, p: usize, c: usize) -> bool
     (k < edges) & (folder::u16_at(eb, p) == c)
 }
 
-// The edges of node n, from `at` on, name the commands whose guards read true, each once, ascending.
-fn edges_enabled(m: &[u8], g: &[u8], n: usize, at: usize, known: &[u8], values: &[i64]) -> bool
+// The edges of node n, from `at` on, name the commands whose guards read true, each once, ascending. Where A2 holds, a guard
+// reads what it is in the concrete state.
+fn edges_enabled(m: &[u8], g: &[u8], n: usize, at: usize, state: &[i64]) -> bool
     requires { ⌜ NodeOf (now m) (now g) n ⌝ }
     requires { ⌜ at ≡ startsAt (modelOf (now m)) (now g) n ⌝ }
-    requires { ⌜ LabelSettled (now m) (now g) n (now known) (now values) ⌝ }
+    requires { ⌜ GuardsSettled (now m) (now g) n (now state) ⌝ }
     ensures { λ r. ⌜ r ≡ sameEdges (modelOf (now (m .entry))) (simulationOf (modelOf (now (m .entry))) (now (g .entry))) n ⌝ }
 {
     let cs = folder::body(m, 3);
@@ -244,7 +317,7 @@ fn edges_enabled(m: &[u8], g: &[u8], n: usize, at: usize, known: &[u8], values: 
     let mut p = at;
     let mut c = 0;
     while c < commands {
-        if reads_at(known, values, folder::field(4, cs, c, 0), 1) {
+        if holds_at(state, folder::field(4, cs, c, 0)) {
             if names_at(eb, edges, k, p, c) {
                 p += graph::edge_size(cs, eb, p);
                 k += 1;
@@ -258,14 +331,16 @@ fn edges_enabled(m: &[u8], g: &[u8], n: usize, at: usize, known: &[u8], values: 
 }
 
 // Row 20.
-pub fn b1(m: &[u8], g: &[u8], n: usize, at: usize, known: &[u8], values: &[i64]) -> bool
+pub fn b1(m: &[u8], g: &[u8], n: usize, at: usize, state: &[i64]) -> bool
     requires { ⌜ NodeOf (now m) (now g) n ⌝ }
+    requires { ⌜ A1 (modelOf (now m)) (simulationOf (modelOf (now m)) (now g)) n ≡ true ⌝ }
+    requires { ⌜ A2 (modelOf (now m)) (simulationOf (modelOf (now m)) (now g)) n ≡ true ⌝ }
     requires { ⌜ at ≡ startsAt (modelOf (now m)) (now g) n ⌝ }
-    requires { ⌜ LabelSettled (now m) (now g) n (now known) (now values) ⌝ }
+    requires { ⌜ StateSettled (now m) (now g) n (now state) ⌝ }
     ensures { λ r. ⌜ r ≡ B1 (modelOf (now (m .entry))) (simulationOf (modelOf (now (m .entry))) (now (g .entry))) n ⌝ }
 {
     if node_field(m, g, n, 0) == EXPANDED {
-        edges_enabled(m, g, n, at, known, values)
+        edges_enabled(m, g, n, at, state)
     } else {
         true
     }
@@ -279,12 +354,12 @@ fn value_in(v: &[i64], e: usize) -> i64
     v[e]
 }
 
-// `reads_at` for an entry that has a place in both rows.
-fn reads_in(known: &[u8], values: &[i64], e: usize, z: i64) -> bool
-    requires { ⌜ (e < length (now known)) × (e < length (now values)) ⌝ }
-    ensures { λ r. ⌜ r ≡ readsAt (now (known .entry)) (now (values .entry)) e z ⌝ }
+// Entry e, which has a place in both rows, is flagged and is z.
+fn reads_in(known: &[u8], state: &[i64], e: usize, z: i64) -> bool
+    requires { ⌜ (e < length (now known)) × (e < length (now state)) ⌝ }
+    ensures { λ r. ⌜ r ≡ readsAt (now (known .entry)) (now (state .entry)) e z ⌝ }
 {
-    (known[e] == 1) & whole::equal(value_in(values, e), z)
+    (known[e] == 1) & whole::equal(value_in(state, e), z)
 }
 
 // A branch record and the node that is its successor, by where they start in their bodies, and the set of what that node
@@ -313,19 +388,19 @@ fn label_is(
     nb: &[u8],
     bs: &[u8],
     known: &[u8],
-    values: &[i64],
+    state: &[i64],
     lead: Lead,
     v: usize,
 ) -> bool
     requires { ⌜ (vars ≤ mostVariables) × (v < vars) ⌝ }
     requires { ⌜ Leads vars (now nb) (now bs) (lead .from) (lead .to) ⌝ }
-    requires { ⌜ (mostExpressions ≤ length (now known)) × (mostExpressions ≤ length (now values)) ⌝ }
-    ensures { λ t. ⌜ (lead .set ≡ u16 (now (nb .entry)) (lead .to + 10) → t ≡ labelAt vars (now (nb .entry)) (now (bs .entry)) (now (known .entry)) (now (values .entry)) (lead .from) (lead .to) v) ⌝ }
+    requires { ⌜ RowsLong (now known) (now state) ⌝ }
+    ensures { λ t. ⌜ (lead .set ≡ u16 (now (nb .entry)) (lead .to + 10) → t ≡ labelAt vars (now (nb .entry)) (now (bs .entry)) (now (known .entry)) (now (state .entry)) (lead .from) (lead .to) v) ⌝ }
 {
     let e = folder::u16_in(bs, lead.from + 2 + 2 * v);
     let label = folder::signed_of(folder::u16_in(nb, lead.to + 12 + 2 * vars + 2 * v));
     let tracked = expressions::has_bit(lead.set, v);
-    !tracked | reads_in(known, values, e, label)
+    !tracked | reads_in(known, state, e, label)
 }
 
 fn variable_follows(
@@ -333,18 +408,17 @@ fn variable_follows(
     nb: &[u8],
     bs: &[u8],
     known: &[u8],
-    values: &[i64],
     state: &[i64],
     lead: Lead,
     v: usize,
 ) -> bool
     requires { ⌜ (vars ≤ mostVariables) × (v < vars) ⌝ }
     requires { ⌜ Leads vars (now nb) (now bs) (lead .from) (lead .to) ⌝ }
-    requires { ⌜ RowsLong (now known) (now values) (now state) ⌝ }
-    ensures { λ t. ⌜ (lead .set ≡ u16 (now (nb .entry)) (lead .to + 10) → t ≡ variableFollows vars (now (nb .entry)) (now (bs .entry)) (now (known .entry)) (now (values .entry)) (now (state .entry)) (lead .from) (lead .to) v) ⌝ }
+    requires { ⌜ RowsLong (now known) (now state) ⌝ }
+    ensures { λ t. ⌜ (lead .set ≡ u16 (now (nb .entry)) (lead .to + 10) → t ≡ variableFollows vars (now (nb .entry)) (now (bs .entry)) (now (known .entry)) (now (state .entry)) (lead .from) (lead .to) v) ⌝ }
 {
     let same = result_is(vars, nb, bs, state, lead, v);
-    same & label_is(vars, nb, bs, known, values, lead, v)
+    same & label_is(vars, nb, bs, known, state, lead, v)
 }
 
 // Branch record r and node s, where both start.
@@ -365,20 +439,19 @@ fn branch_follows(
     nb: &[u8],
     bs: &[u8],
     known: &[u8],
-    values: &[i64],
     state: &[i64],
     r: usize,
     s: usize,
 ) -> bool
     requires { ⌜ (vars ≤ mostVariables) × (r ≤ fieldLimit) × (s ≤ fieldLimit) ⌝ }
     requires { ⌜ Leads vars (now nb) (now bs) (branchSize vars * r) (nodeSize vars * s) ⌝ }
-    requires { ⌜ RowsLong (now known) (now values) (now state) ⌝ }
-    ensures { λ t. ⌜ t ≡ branchFollows vars (now (nb .entry)) (now (bs .entry)) (now (known .entry)) (now (values .entry)) (now (state .entry)) r s ⌝ }
+    requires { ⌜ RowsLong (now known) (now state) ⌝ }
+    ensures { λ t. ⌜ t ≡ branchFollows vars (now (nb .entry)) (now (bs .entry)) (now (known .entry)) (now (state .entry)) r s ⌝ }
 {
     let lead = lead_of(vars, nb, r, s);
     let mut v = 0;
     while v < vars {
-        if variable_follows(vars, nb, bs, known, values, state, lead, v) {
+        if variable_follows(vars, nb, bs, known, state, lead, v) {
             v += 1;
         } else {
             return false;
@@ -406,16 +479,16 @@ fn results_are(vars: usize, nb: &[u8], bs: &[u8], state: &[i64], lead: Lead) -> 
 }
 
 // The first variable that the node tracks and that does not read so in the label.
-fn first_apart(vars: usize, nb: &[u8], bs: &[u8], known: &[u8], values: &[i64], lead: Lead) -> usize
+fn first_apart(vars: usize, nb: &[u8], bs: &[u8], known: &[u8], state: &[i64], lead: Lead) -> usize
     requires { ⌜ vars ≤ mostVariables ⌝ }
     requires { ⌜ Leads vars (now nb) (now bs) (lead .from) (lead .to) ⌝ }
     requires { ⌜ lead .set ≡ u16 (now nb) (lead .to + 10) ⌝ }
-    requires { ⌜ (mostExpressions ≤ length (now known)) × (mostExpressions ≤ length (now values)) ⌝ }
-    ensures { λ r. ⌜ r ≡ firstBad (labelAt vars (now (nb .entry)) (now (bs .entry)) (now (known .entry)) (now (values .entry)) (lead .from) (lead .to)) vars ⌝ }
+    requires { ⌜ RowsLong (now known) (now state) ⌝ }
+    ensures { λ r. ⌜ r ≡ firstBad (labelAt vars (now (nb .entry)) (now (bs .entry)) (now (known .entry)) (now (state .entry)) (lead .from) (lead .to)) vars ⌝ }
 {
     let mut v = 0;
     while v < vars {
-        if label_is(vars, nb, bs, known, values, lead, v) {
+        if label_is(vars, nb, bs, known, state, lead, v) {
             v += 1;
         } else {
             return v;
@@ -430,19 +503,18 @@ fn apart_by(
     nb: &[u8],
     bs: &[u8],
     known: &[u8],
-    values: &[i64],
     state: &[i64],
     r: usize,
     s: usize,
 ) -> usize
     requires { ⌜ (vars ≤ mostVariables) × (r ≤ fieldLimit) × (s ≤ fieldLimit) ⌝ }
     requires { ⌜ Leads vars (now nb) (now bs) (branchSize vars * r) (nodeSize vars * s) ⌝ }
-    requires { ⌜ RowsLong (now known) (now values) (now state) ⌝ }
-    ensures { λ v. ⌜ v ≡ apartBy vars (now (nb .entry)) (now (bs .entry)) (now (known .entry)) (now (values .entry)) (now (state .entry)) r s ⌝ }
+    requires { ⌜ RowsLong (now known) (now state) ⌝ }
+    ensures { λ v. ⌜ v ≡ apartBy vars (now (nb .entry)) (now (bs .entry)) (now (known .entry)) (now (state .entry)) r s ⌝ }
 {
     let lead = lead_of(vars, nb, r, s);
     if results_are(vars, nb, bs, state, lead) {
-        first_apart(vars, nb, bs, known, values, lead)
+        first_apart(vars, nb, bs, known, state, lead)
     } else {
         NO_VARIABLE
     }
@@ -461,15 +533,14 @@ fn first_bad_branch(
     nb: &[u8],
     bs: &[u8],
     known: &[u8],
-    values: &[i64],
     state: &[i64],
     eb: &[u8],
     edge: Edge,
 ) -> usize
     requires { ⌜ (vars ≤ mostVariables) × (edge .first + edge .branches ≤ fieldLimit) × (edge .at < 2 ^ 40) ⌝ }
     requires { ⌜ AllLead vars (now nb) (now bs) (now eb) (edge .first) (edge .branches) (edge .at) ⌝ }
-    requires { ⌜ RowsLong (now known) (now values) (now state) ⌝ }
-    ensures { λ t. ⌜ t ≡ firstBad (branchAt vars (now (nb .entry)) (now (bs .entry)) (now (known .entry)) (now (values .entry)) (now (state .entry)) (now (eb .entry)) (edge .first) (edge .at)) (edge .branches) ⌝ }
+    requires { ⌜ RowsLong (now known) (now state) ⌝ }
+    ensures { λ t. ⌜ t ≡ firstBad (branchAt vars (now (nb .entry)) (now (bs .entry)) (now (known .entry)) (now (state .entry)) (now (eb .entry)) (edge .first) (edge .at)) (edge .branches) ⌝ }
 {
     let first = edge.first;
     let branches = edge.branches;
@@ -477,7 +548,7 @@ fn first_bad_branch(
     let mut b = 0;
     while b < branches {
         let s = folder::u16_at(eb, p + 2 + 2 * b);
-        if branch_follows(vars, nb, bs, known, values, state, first + b, s) {
+        if branch_follows(vars, nb, bs, known, state, first + b, s) {
             b += 1;
         } else {
             return b;
@@ -493,6 +564,14 @@ pub struct Followed {
     pub second: usize,
 }
 
+// The same as far as the flags tell, and the record of the branch that does not follow.
+struct Walk {
+    holds: bool,
+    next: usize,
+    second: usize,
+    branch: usize,
+}
+
 // Each edge of node n, from `at` on.
 fn edges_follow(
     m: &[u8],
@@ -501,16 +580,16 @@ fn edges_follow(
     at: usize,
     firsts: &[usize],
     known: &[u8],
-    values: &[i64],
     state: &[i64],
-) -> Followed
+) -> Walk
     requires { ⌜ NodeOf (now m) (now g) n ⌝ }
     requires { ⌜ at ≡ startsAt (modelOf (now m)) (now g) n ⌝ }
     requires { ⌜ FirstsOf (now m) (now firsts) ⌝ }
-    requires { ⌜ LabelSettled (now m) (now g) n (now known) (now values) ⌝ }
     requires { ⌜ StateSettled (now m) (now g) n (now state) ⌝ }
-    requires { ⌜ RowsLong (now known) (now values) (now state) ⌝ }
-    ensures { λ r. ⌜ (r .holds ≡ edgesFollow (modelOf (now (m .entry))) (simulationOf (modelOf (now (m .entry))) (now (g .entry))) n) × (r .holds ≡ true → r .next ≡ startsAt (modelOf (now (m .entry))) (now (g .entry)) (n + 1)) × (r .holds ≡ false → r .second ≡ second21 (modelOf (now (m .entry))) (simulationOf (modelOf (now (m .entry))) (now (g .entry))) n) ⌝ }
+    requires { ⌜ RowsLong (now known) (now state) ⌝ }
+    ensures { λ r. ⌜ r .holds ≡ edgesBy (modelOf (now (m .entry))) (simulationOf (modelOf (now (m .entry))) (now (g .entry))) n (flagsOf (now (m .entry)) (now (g .entry)) (now (known .entry)) (now (state .entry))) ⌝ }
+    ensures { λ r. ⌜ (r .holds ≡ true → r .next ≡ startsAt (modelOf (now (m .entry))) (now (g .entry)) (n + 1)) ⌝ }
+    ensures { λ r. ⌜ (r .holds ≡ false → (r .second ≡ secondBy (modelOf (now (m .entry))) (simulationOf (modelOf (now (m .entry))) (now (g .entry))) n (flagsOf (now (m .entry)) (now (g .entry)) (now (known .entry)) (now (state .entry)))) × (r .branch ≡ badRecordBy (modelOf (now (m .entry))) (simulationOf (modelOf (now (m .entry))) (now (g .entry))) n (flagsOf (now (m .entry)) (now (g .entry)) (now (known .entry)) (now (state .entry))))) ⌝ }
 {
     let vars = graph::variable_count(m);
     let cs = folder::body(m, 3);
@@ -529,23 +608,89 @@ fn edges_follow(
             first,
             branches,
         };
-        let b = first_bad_branch(vars, nb, bs, known, values, state, eb, edge);
+        let b = first_bad_branch(vars, nb, bs, known, state, eb, edge);
         if b < branches {
             let s = folder::u16_at(eb, p + 2 + 2 * b);
-            let second = apart_by(vars, nb, bs, known, values, state, first + b, s);
-            return Followed {
+            let branch = first + b;
+            let second = apart_by(vars, nb, bs, known, state, branch, s);
+            return Walk {
                 holds: false,
                 next: p,
                 second,
+                branch,
             };
         }
         p += 2 + 2 * branches;
         e += 1;
     }
-    Followed {
+    Walk {
         holds: true,
         next: p,
         second: 0,
+        branch: 0,
+    }
+}
+
+// The entry that branch record r assigns to variable v, where v is a variable and the entry is not flagged; else a number
+// past all entries.
+fn open_entry(m: &[u8], known: &[u8], r: usize, v: usize) -> usize
+    requires { ⌜ Valid (now m) ⌝ }
+    requires { ⌜ r ≤ fieldLimit ⌝ }
+    ensures { λ e. ⌜ e ≡ openEntry (modelOf (now (m .entry))) (now (known .entry)) r v ⌝ }
+{
+    let vars = graph::variable_count(m);
+    if v < vars {
+        let e = folder::field(2 + 2 * vars, folder::body(m, 4), r, 1 + v);
+        if !known_at(known, e) {
+            return e;
+        }
+    }
+    MOST_EXPRESSIONS
+}
+
+// What the flags leave open is asked, one entry after the other, until all edges follow or one does not for good.
+fn edges_asked(
+    m: &[u8],
+    g: &[u8],
+    n: usize,
+    at: usize,
+    firsts: &[usize],
+    masks: &[u16],
+    state: &[i64],
+    known: &mut [u8],
+) -> Followed
+    requires { ⌜ NodeOf (now m) (now g) n ⌝ }
+    requires { ⌜ A1 (modelOf (now m)) (simulationOf (modelOf (now m)) (now g)) n ≡ true ⌝ }
+    requires { ⌜ at ≡ startsAt (modelOf (now m)) (now g) n ⌝ }
+    requires { ⌜ FirstsOf (now m) (now firsts) ⌝ }
+    requires { ⌜ MasksOf (now m) (now masks) ⌝ }
+    requires { ⌜ NodeRead (now m) (now g) n (now known) (now state) ⌝ }
+    ensures { λ r. ⌜ (r .holds ≡ edgesFollow (modelOf (now (m .entry))) (simulationOf (modelOf (now (m .entry))) (now (g .entry))) n) × (r .holds ≡ true → r .next ≡ startsAt (modelOf (now (m .entry))) (now (g .entry)) (n + 1)) × (r .holds ≡ false → r .second ≡ second21 (modelOf (now (m .entry))) (simulationOf (modelOf (now (m .entry))) (now (g .entry))) n) ⌝ }
+{
+    loop {
+        let walk = edges_follow(m, g, n, at, firsts, known, state);
+        if walk.holds {
+            return Followed {
+                holds: true,
+                next: walk.next,
+                second: 0,
+            };
+        }
+        let e = open_entry(m, known, walk.branch, walk.second);
+        if e == MOST_EXPRESSIONS {
+            return Followed {
+                holds: false,
+                next: at,
+                second: walk.second,
+            };
+        }
+        if !ask(m, g, n, masks, state, e, known) {
+            return Followed {
+                holds: false,
+                next: at,
+                second: walk.second,
+            };
+        }
     }
 }
 
@@ -556,20 +701,20 @@ pub fn b2(
     n: usize,
     at: usize,
     firsts: &[usize],
-    known: &[u8],
-    values: &[i64],
+    masks: &[u16],
     state: &[i64],
+    known: &mut [u8],
 ) -> Followed
     requires { ⌜ NodeOf (now m) (now g) n ⌝ }
+    requires { ⌜ A1 (modelOf (now m)) (simulationOf (modelOf (now m)) (now g)) n ≡ true ⌝ }
     requires { ⌜ at ≡ startsAt (modelOf (now m)) (now g) n ⌝ }
     requires { ⌜ FirstsOf (now m) (now firsts) ⌝ }
-    requires { ⌜ LabelSettled (now m) (now g) n (now known) (now values) ⌝ }
-    requires { ⌜ StateSettled (now m) (now g) n (now state) ⌝ }
-    requires { ⌜ RowsLong (now known) (now values) (now state) ⌝ }
+    requires { ⌜ MasksOf (now m) (now masks) ⌝ }
+    requires { ⌜ NodeRead (now m) (now g) n (now known) (now state) ⌝ }
     ensures { λ r. ⌜ (r .holds ≡ B2 (modelOf (now (m .entry))) (simulationOf (modelOf (now (m .entry))) (now (g .entry))) n) × (r .holds ≡ true → r .next ≡ startsAt (modelOf (now (m .entry))) (now (g .entry)) (n + 1)) × (r .holds ≡ false → r .second ≡ second21 (modelOf (now (m .entry))) (simulationOf (modelOf (now (m .entry))) (now (g .entry))) n) ⌝ }
 {
     if node_field(m, g, n, 0) == EXPANDED {
-        edges_follow(m, g, n, at, firsts, known, values, state)
+        edges_asked(m, g, n, at, firsts, masks, state, known)
     } else {
         Followed {
             holds: true,

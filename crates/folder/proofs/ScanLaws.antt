@@ -103,6 +103,14 @@ first-same a b n h = go (eq-or-lt-of-le (found b n .within))
     go (inl e) = all-found a n (λ k l. h k l ∙ found b n .before k (rw e l)) ∙ sym e
     go (inr l) = found-at a n (firstBad b n) l (λ k m. h k (omega arith) ∙ found b n .before k m) (h (firstBad b n) l ∙ found b n .broken l)
 
+-- a test that passes no more than another, which fails too where the first one does first
+pub first-weaker : (a b : ℕ → Bool) (n : ℕ) → ((k : ℕ) → k < n → a k ≡ true → b k ≡ true) → (firstBad a n < n → b (firstBad a n) ≡ false) → firstBad a n ≡ firstBad b n
+first-weaker a b n h f = go (eq-or-lt-of-le (found a n .within))
+  where
+    go : (firstBad a n ≡ n) ⊎ (firstBad a n < n) → firstBad a n ≡ firstBad b n
+    go (inl e) = e ∙ sym (all-found b n (λ k l. h k l (found a n .before k (rw e l))))
+    go (inr l) = sym (found-at b n (firstBad a n) l (λ k m. h k (omega arith) (found a n .before k m)) (f l))
+
 -- ---- the four facts of a scan in the code, `while i < n { if ok(i) { i += 1 } else { return i } } i`, whose invariant is `Scanned ok n i`; t is what the code's test of place i answers
 pub record Scanned (ok : ℕ → Bool) (n i : ℕ) : Type 0 where
   pub within : i ≤ n

@@ -12,9 +12,7 @@ use model::MOST_RECORDS;
 ghost use mathlib.Core.Path.{_≡_};
 ghost use mathlib.Core.Bool.{true};
 ghost use Prim.Native.Nat.{_+_, _≤_};
-ghost use lib.ListN.{drop, length};
 ghost use Rattle.folder.specs.Table.{cause, firstBroken, outcome};
-ghost use Rattle.model.specs.Limits.{mostExpressions};
 ghost use Rattle.model.specs.Model.{modelOf};
 ghost use Rattle.model.specs.Valid.{Valid};
 ghost use Rattle.graph.specs.Limits.{mostNodes};
@@ -23,7 +21,7 @@ ghost use Rattle.graph.specs.Rules.{A1};
 ghost use Rattle.graph.specs.Table.{nodeRules, ruleRows, graphRows, summary};
 ghost use Rattle.graph.specs.Valid.{RowsRight};
 ghost use Rattle.graph.specs.Walks.{startsAt};
-ghost use Rattle.expand.specs.Node.{NodeOf, LabelSettled, FirstsOf, MasksOf};
+ghost use Rattle.expand.specs.Node.{NodeOf, NodeRead, FirstsOf, MasksOf};
 ghost use Rattle.graph_rules.specs.Ready.{RulesReady, readingRules, coverRules};
 
 // Of a node: its first broken rule; and if none is broken, where the next node's edges start.
@@ -39,34 +37,41 @@ fn ruling(number: usize, second: usize, next: usize) -> Ruled
     Ruled { broken, next }
 }
 
-// B2 of a node, from its readings; its concrete state is read here.
-fn successor_rule(
+// A2, B1 and B2 of a node that keeps A1, from the rows of its readings: the first broken one.
+fn asked_rules(
     m: &[u8],
     g: &[u8],
     n: usize,
     at: usize,
     firsts: &[usize],
-    known: &[u8],
-    values: &[i64],
+    masks: &[u16],
+    state: &[i64],
+    known: &mut [u8],
 ) -> Ruled
     requires { ⌜ NodeOf (now m) (now g) n ⌝ }
+    requires { ⌜ A1 (modelOf (now m)) (simulationOf (modelOf (now m)) (now g)) n ≡ true ⌝ }
     requires { ⌜ at ≡ startsAt (modelOf (now m)) (now g) n ⌝ }
     requires { ⌜ FirstsOf (now m) (now firsts) ⌝ }
-    requires { ⌜ LabelSettled (now m) (now g) n (now known) (now values) ⌝ }
-    requires { ⌜ (mostExpressions ≤ length (now known)) × (mostExpressions ≤ length (now values)) ⌝ }
-    ensures { λ r. ⌜ (r .broken ≡ firstBroken (drop 2 (readingRules (now (m .entry)) (now (g .entry)) n))) × (r .broken .number ≡ 0 → r .next ≡ startsAt (modelOf (now (m .entry))) (now (g .entry)) (n + 1)) ⌝ }
+    requires { ⌜ MasksOf (now m) (now masks) ⌝ }
+    requires { ⌜ NodeRead (now m) (now g) n (now known) (now state) ⌝ }
+    ensures { λ r. ⌜ (r .broken ≡ firstBroken (readingRules (now (m .entry)) (now (g .entry)) n)) × (r .broken .number ≡ 0 → r .next ≡ startsAt (modelOf (now (m .entry))) (now (g .entry)) (n + 1)) ⌝ }
 {
-    let mut flags = [0u8; MOST_EXPRESSIONS];
-    let mut state = [0i64; MOST_EXPRESSIONS];
-    expand::settle_state(m, g, n, &mut flags, &mut state);
-    let followed = expand::b2(m, g, n, at, firsts, known, values, &state);
+    let kept = expand::a2(m, g, n, masks, state, known);
+    if !kept.holds {
+        return ruling(19, kept.second, at);
+    }
+    if !expand::b1(m, g, n, at, state) {
+        return ruling(20, 0, at);
+    }
+    let followed = expand::b2(m, g, n, at, firsts, masks, state, known);
     if followed.holds {
         return ruling(0, 0, followed.next);
     }
     ruling(21, followed.second, at)
 }
 
-// A2, B1 and B2 of a node that keeps A1, from its readings: the first broken one.
+// The same, with the rows: what the entries are in the node's concrete state, and flags for those that read known in its
+// label.
 fn settled_rules(m: &[u8], g: &[u8], n: usize, at: usize, firsts: &[usize], masks: &[u16]) -> Ruled
     requires { ⌜ NodeOf (now m) (now g) n ⌝ }
     requires { ⌜ A1 (modelOf (now m)) (simulationOf (modelOf (now m)) (now g)) n ≡ true ⌝ }
@@ -76,16 +81,10 @@ fn settled_rules(m: &[u8], g: &[u8], n: usize, at: usize, firsts: &[usize], mask
     ensures { λ r. ⌜ (r .broken ≡ firstBroken (readingRules (now (m .entry)) (now (g .entry)) n)) × (r .broken .number ≡ 0 → r .next ≡ startsAt (modelOf (now (m .entry))) (now (g .entry)) (n + 1)) ⌝ }
 {
     let mut known = [0u8; MOST_EXPRESSIONS];
-    let mut values = [0i64; MOST_EXPRESSIONS];
-    expand::settle_label(m, g, n, &mut known, &mut values);
-    let kept = expand::a2(m, g, n, &known, &values, masks);
-    if !kept.holds {
-        return ruling(19, kept.second, at);
-    }
-    if !expand::b1(m, g, n, at, &known, &values) {
-        return ruling(20, 0, at);
-    }
-    successor_rule(m, g, n, at, firsts, &known, &values)
+    let mut state = [0i64; MOST_EXPRESSIONS];
+    expand::settle_label(m, g, n, &mut known, &mut state);
+    expand::settle_state(m, g, n, &mut state);
+    asked_rules(m, g, n, at, firsts, masks, &state, &mut known)
 }
 
 // A2, B1 and B2. They ask something of expanded and target nodes only: other labels are not read, and such nodes have no

@@ -15,6 +15,8 @@ use Rattle.whole.specs.Order.{minZ, maxZ, eqZ}
 use Rattle.expressions.specs.Reading.{hasBit, lookIn, readNumber, readTruth}
 use Rattle.expressions.specs.Mentions.{union, mentions, missing}
 use Rattle.expressions.specs.Ranges.{rangeOf, inside}
+use Rattle.expressions.specs.Combinations.{productOf, widthOf, choices, combinations, leftOf, valueIn, combination}
+use Rattle.expressions.specs.States.{numberByAll, truthByAll, numberRead, truthRead}
 use Rattle.expressions.specs.Rules.{depthOf, numberFits, truthFits, entryFits, rangeFits}
 use Rattle.model.specs.Layout.{recordSize, recordCount}
 use Rattle.model.specs.Model.{bound}
@@ -37,7 +39,7 @@ use Rattle.graph.proofs.Demand.{demand-3}
 
 -- All that the calls are defined by, opened.
 unfoldable computing : ℕ
-unfolding u16 u32 signed16 dueStart entryOk body countOf field field4 firstBad tab passing sameList outcome allRules firstBroken numberFormOf truthFormOf numberForm truthForm isNumber isTruth numberAt truthAt minZ maxZ eqZ readNumber readTruth rangeOf inside depthOf numberFits truthFits entryFits rangeFits recordSize recordCount bound recordsFit variableFits termsFit commandFits recordsAddUp assignedFits branchFits weightsTotal next Step.valueFits Step.stepOutcome Step.stepRow edgeSize edgeAfter edgesStart edgeWhole edgeAt kindOf hasBit lookIn nodesFit headFits valuesFit nodeFits edgeFits edgesFit rootFits A1 A2 B1 resultIs labelFollows follows edgeFollows B2 union mentions missing second19 secondOf second21 C3 C1 C2 valueRule graphOutcome graphAnswer round figures figureOutcome figurePart
+unfolding u16 u32 signed16 dueStart entryOk body countOf field field4 firstBad tab passing sameList outcome allRules firstBroken numberFormOf truthFormOf numberForm truthForm isNumber isTruth numberAt truthAt minZ maxZ eqZ readNumber readTruth productOf widthOf choices combinations leftOf valueIn combination numberByAll truthByAll numberRead truthRead rangeOf inside depthOf numberFits truthFits entryFits rangeFits recordSize recordCount bound recordsFit variableFits termsFit commandFits recordsAddUp assignedFits branchFits weightsTotal next Step.valueFits Step.stepOutcome Step.stepRow edgeSize edgeAfter edgesStart edgeWhole edgeAt kindOf hasBit lookIn nodesFit headFits valuesFit nodeFits edgeFits edgesFit rootFits A1 A2 B1 resultIs labelFollows follows edgeFollows B2 union mentions missing second19 secondOf second21 C3 C1 C2 valueRule graphOutcome graphAnswer round figures figureOutcome figurePart
 computing = 0
 
 pub cases-hold : map (λ (c : Case). c .told) cases ≡ map (λ (c : Case). c .due) cases

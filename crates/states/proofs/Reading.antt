@@ -49,11 +49,11 @@ known-so true = refl
 known-so false = refl
 
 module _ (x : Entries) (L : Label) (e : ℕ) where
-  read-number : IsNumber x e → entryRead x L e ≡ numberRead x L e
+  pub read-number : IsNumber x e → entryRead x L e ≡ numberRead x L e
   unfolding entryRead
   read-number i = rw (number-decided x e .no i)
 
-  read-truth : IsTruth x e → entryRead x L e ≡ asNumber (truthRead x L e)
+  pub read-truth : IsTruth x e → entryRead x L e ≡ asNumber (truthRead x L e)
   unfolding entryRead
   read-truth i = rw (not-true (isNumber x e) (unless (number-decided x e) .no (λ n. omega arith)))
 

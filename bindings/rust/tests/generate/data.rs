@@ -66,6 +66,8 @@ pub const MOST_DEPTH: u32 = 12;
 pub const BOUND: i16 = 30_000;
 /// A number's range lies within this and its negative.
 pub const NUMBER_BOUND: i64 = 1_000_000;
+/// No more combinations than these are tried for a reading.
+pub const MOST_COMBINATIONS: u64 = 4_096;
 pub const LAST_REFUSAL: u32 = 34;
 
 /// The lengths of the tables of contents: no folder is shorter.
@@ -123,7 +125,58 @@ impl ModelData {
         self.variables.iter().map(|&[_, _, initial]| initial).collect()
     }
 
-    /// Every entry's reading in the state, where the variables of the set are
+    /// For each entry the variables that it mentions, its parts' among them.
+    pub fn mentioned(&self) -> Vec<u16> {
+        let mut sets: Vec<u16> = Vec::with_capacity(self.entries.len());
+        for &[operation, a, b, c] in &self.entries {
+            let part = |field: u16| sets[usize::from(field)];
+            let set = match operation {
+                0 | 14 => 0,
+                1 => 1 << a,
+                7 => part(a) | part(b) | part(c),
+                11 => part(a),
+                _ => part(a) | part(b),
+            };
+            sets.push(set);
+        }
+        sets
+    }
+
+    /// How many values a variable has.
+    fn size(&self, variable: usize) -> u64 {
+        let [low, high, _] = self.variables[variable];
+        (i64::from(high) - i64::from(low) + 1) as u64
+    }
+
+    /// How many combinations the variables of a set have, or as many as a number holds.
+    pub fn combinations(&self, set: u16) -> u64 {
+        let variables = (0..self.variables.len()).filter(|&v| in_set(set, v));
+        variables.fold(1, |product: u64, v| product.saturating_mul(self.size(v)))
+    }
+
+    /// An entry's reading in the state, where the variables of the set are known: its
+    /// value, if that is the same whatever the others are that it mentions, as long as
+    /// there are few enough combinations; else its three-way reading.
+    pub fn read_by_all_states(&self, entry: u16, state: &[i16], tracked: u16) -> Option<i64> {
+        let entry = usize::from(entry);
+        let free = self.mentioned()[entry] & !tracked;
+        if self.combinations(free) > MOST_COMBINATIONS {
+            return self.read(state, tracked)[entry];
+        }
+        let value = self.evaluate(state)[entry];
+        let mut other = state.to_vec();
+        let same = |combination: u64| {
+            let mut rest = combination;
+            for v in (0..state.len()).filter(|&v| in_set(free, v)) {
+                other[v] = self.variables[v][0] + (rest % self.size(v)) as i16;
+                rest /= self.size(v);
+            }
+            self.evaluate(&other)[entry] == value
+        };
+        (0..self.combinations(free)).all(same).then_some(value)
+    }
+
+    /// Every entry's three-way reading in the state, where the variables of the set are
     /// known: a number, or a truth as 0 or 1. For a model that keeps its rules.
     pub fn read(&self, state: &[i16], tracked: u16) -> Vec<Option<i64>> {
         let mut table: Vec<Option<i64>> = Vec::with_capacity(self.entries.len());

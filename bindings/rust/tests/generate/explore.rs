@@ -19,6 +19,9 @@ pub struct Plan {
     pub anew: usize,
     /// Once in so many times a new node tracks a variable that nobody asked for.
     pub extra: usize,
+    /// What has no more combinations than this is read by all states, so that labels
+    /// track less; 0 for three-way readings alone.
+    pub combinations: u64,
     pub values: Values,
     /// Whether the nodes past the root change places.
     pub shuffle: bool,
@@ -48,6 +51,7 @@ impl Plan {
             uncovered: random.pick(&[2, 4, 10, 1_000]),
             anew: random.pick(&[2, 3, 10]),
             extra: random.pick(&[4, 20, 1_000]),
+            combinations: if random.once_in(200) { MOST_COMBINATIONS } else { random.pick(&[0, 4, 16, 64]) },
             values: match random.below(6) {
                 0 => Values::Certain,
                 1 => Values::Downward(random.below(30)),
@@ -80,26 +84,22 @@ impl Draft {
 
 struct Explorer<'a> {
     model: &'a ModelData,
-    /// For each entry the variables that it reads, its parts' among them.
-    reads: Vec<u16>,
+    mentioned: Vec<u16>,
+    /// See `Plan`.
+    combinations: u64,
     nodes: Vec<Draft>,
     places: HashMap<Vec<i16>, Vec<usize>>,
 }
 
 /// A graph that keeps every rule, for a model that does.
 pub fn graph(random: &mut Random, model: &ModelData, plan: &Plan) -> GraphData {
-    let mut explorer = Explorer { model, reads: Vec::new(), nodes: Vec::new(), places: HashMap::new() };
-    for &[operation, a, b, c] in &model.entries {
-        let part = |field: u16| explorer.reads[usize::from(field)];
-        let reads = match operation {
-            0 | 14 => 0,
-            1 => 1 << a,
-            7 => part(a) | part(b) | part(c),
-            11 => part(a),
-            _ => part(a) | part(b),
-        };
-        explorer.reads.push(reads);
-    }
+    let mut explorer = Explorer {
+        model,
+        mentioned: model.mentioned(),
+        combinations: plan.combinations,
+        nodes: Vec::new(),
+        places: HashMap::new(),
+    };
     explorer.add(random, model.initial(), plan);
     // Whoever is uncovered waits again; so many turns are enough for any but the
     // oddest graph, and a graph may be left unfinished at any time.
@@ -239,13 +239,23 @@ impl Explorer<'_> {
         let mut tracked = tracked;
         loop {
             let table = self.model.read(state, tracked);
-            let Some(&entry) = asked.iter().find(|&&entry| table[usize::from(entry)].is_none()) else {
+            let unknown = |&&entry: &&u16| {
+                table[usize::from(entry)].is_none() && !self.same_in_all_states(entry, state, tracked)
+            };
+            let Some(&entry) = asked.iter().find(unknown) else {
                 return tracked;
             };
-            let missing = self.reads[usize::from(entry)] & !tracked;
+            let missing = self.mentioned[usize::from(entry)] & !tracked;
             let choices: Vec<u16> = (0..16).filter(|v| missing & 1 << v != 0).collect();
             tracked |= 1 << random.pick(&choices);
         }
+    }
+
+    /// Whether an entry is, by as many combinations as may be tried.
+    fn same_in_all_states(&self, entry: u16, state: &[i16], tracked: u16) -> bool {
+        let free = self.mentioned[usize::from(entry)] & !tracked;
+        self.model.combinations(free) <= self.combinations
+            && self.model.read_by_all_states(entry, state, tracked).is_some()
     }
 
     fn finish(mut self, random: &mut Random, plan: &Plan) -> GraphData {

@@ -1,6 +1,7 @@
 //! Inputs at the limits and just past them, with what each call answers.
 
 use super::data::*;
+use super::readings;
 use super::states::{self, one_hash, one_slot, Crowd};
 use super::{pedal, Input};
 
@@ -95,7 +96,7 @@ fn of_model(name: &'static str, model: &ModelData, answers: Answers) -> Limit {
     Limit { input: input(name, model.bytes(), graph.bytes(), 1, model.variables.len()), answers }
 }
 
-fn of_graph(name: &'static str, model: &ModelData, graph: &GraphData, answers: Answers) -> Limit {
+pub fn of_graph(name: &'static str, model: &ModelData, graph: &GraphData, answers: Answers) -> Limit {
     let nodes = graph.nodes.len();
     Limit { input: input(name, model.bytes(), graph.bytes(), nodes, model.variables.len()), answers }
 }
@@ -312,6 +313,7 @@ pub fn limits() -> Vec<Limit> {
     }
 
     limits.extend(second_limits());
+    limits.extend(readings::cases());
     limits.extend(index_limits());
     limits.extend(crowds());
     limits
@@ -332,7 +334,7 @@ fn second_limits() -> Vec<Limit> {
     // The last guard: a false part that mentions variable 0 at the greatest depth, or
     // one that is unknown while the last variable is.
     model.commands[command][0] = 16;
-    model.entries[4] = [8, 3, 3, 0];
+    model.entries[4] = [8, 3, 0, 0];
     model.entries[5] = [1, 0, 0, 0];
     model.entries[6] = [9, 5, 5, 0];
     (7..15).for_each(|entry| model.entries[entry] = [11, entry as u16 - 1, 0, 0]);

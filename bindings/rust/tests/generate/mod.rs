@@ -7,12 +7,14 @@
 
 pub mod data;
 pub mod explore;
+pub mod hostile;
 pub mod large;
 pub mod limits;
 pub mod models;
 pub mod mutate;
 pub mod products;
 pub mod random;
+pub mod readings;
 pub mod seconds;
 pub mod states;
 
@@ -235,7 +237,7 @@ impl Pair {
 /// The input of a seed.
 pub fn input(seed: u64) -> Input {
     let random = &mut Random::new(seed);
-    match random.below(23) {
+    match random.below(27) {
         0..=5 => Pair::any(random).input(random, "valid"),
         6 => states::shared(random).input(random, "few states"),
         7..=9 => mutate::near_model(random),
@@ -246,6 +248,7 @@ pub fn input(seed: u64) -> Input {
         }
         17..=18 => mutate::damaged(random),
         19 => mutate::tiny(random),
-        _ => seconds::refused(random),
+        20..=22 => seconds::refused(random),
+        _ => readings::input(random),
     }
 }

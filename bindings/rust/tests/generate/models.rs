@@ -123,6 +123,9 @@ pub struct Shape {
     pub depth: u32,
     /// Whether to build a tower of shared entries up to the greatest depth.
     pub tower: bool,
+    /// Once in so many times what a rule may ask for mentions variables that do not
+    /// matter, or hardly do; 0 for never.
+    pub disguised: usize,
 }
 
 impl Shape {
@@ -136,6 +139,7 @@ impl Shape {
             total: random.pick(&[3, 4, 7, 10]),
             depth: 1 + random.below(4) as u32,
             tower: random.once_in(8),
+            disguised: random.pick(&[0, 2, 4]),
         }
     }
 
@@ -150,6 +154,7 @@ impl Shape {
             total: random.pick(&[1, 2, 3, 7, 10, 10, 100, 1_000, 40_000, u16::MAX]),
             depth: 1 + random.below(6) as u32,
             tower: random.once_in(6),
+            disguised: random.pick(&[0, 0, 0, 3]),
         }
     }
 }
@@ -175,13 +180,15 @@ pub fn model(random: &mut Random, shape: &Shape) -> ModelData {
             truth(&mut builder, random, shape.depth)
         };
         let guard = mention_more(&mut builder, random, guard);
+        let guard = disguised_truth(&mut builder, random, shape, guard);
         let count = 1 + random.below(shape.branches.min(usize::from(shape.total)));
         let weights = weights(random, shape.total, count);
         let mut branches = Vec::new();
         for weight in weights {
             let mut branch = vec![weight];
             for v in 0..shape.variables {
-                branch.push(assigned(&mut builder, random, v, shape.depth));
+                let entry = assigned(&mut builder, random, v, shape.depth);
+                branch.push(disguised_number(&mut builder, random, shape, entry, v));
             }
             branches.push(branch);
         }
@@ -191,7 +198,8 @@ pub fn model(random: &mut Random, shape: &Shape) -> ModelData {
         builder.command(guard, branches);
     }
     let target = target(&mut builder, random, shape.depth);
-    builder.model.target = mention_more(&mut builder, random, target);
+    let target = mention_more(&mut builder, random, target);
+    builder.model.target = disguised_truth(&mut builder, random, shape, target);
     builder.model
 }
 
@@ -228,6 +236,108 @@ fn false_and_or(builder: &mut Builder, truth: u16, variable: u16) -> Option<u16>
 fn below_itself(builder: &mut Builder, variable: u16) -> Option<u16> {
     let variable = builder.put([1, variable, 0, 0])?;
     builder.put([9, variable, variable, 0])
+}
+
+/// The truth, or now and then one that mentions more and is the same in every state, or
+/// in all but those with some one value.
+fn disguised_truth(builder: &mut Builder, random: &mut Random, shape: &Shape, truth: u16) -> u16 {
+    if shape.disguised == 0 || !random.once_in(shape.disguised) {
+        return truth;
+    }
+    let made = match random.below(5) {
+        0 => spoiled_truth(builder, random, truth),
+        way => same_truth(builder, random, truth, way),
+    };
+    made.unwrap_or(truth)
+}
+
+/// The truth, with another and without that other, which settle it together.
+fn same_truth(builder: &mut Builder, random: &mut Random, truth: u16, way: usize) -> Option<u16> {
+    let other = self::truth(builder, random, 2);
+    let not = builder.put([11, other, 0, 0])?;
+    match way {
+        1 => {
+            let either = builder.put([13, other, not, 0])?;
+            builder.put([12, truth, either, 0])
+        }
+        2 => {
+            let neither = builder.put([12, not, other, 0])?;
+            builder.put([13, neither, truth, 0])
+        }
+        _ => {
+            let (with, without) = (builder.put([12, truth, other, 0])?, builder.put([12, not, truth, 0])?);
+            builder.put([13, with, without, 0])
+        }
+    }
+}
+
+/// The truth, but where a variable has some one value, an end of its range rather.
+fn spoiled_truth(builder: &mut Builder, random: &mut Random, truth: u16) -> Option<u16> {
+    let is = is_some_value(builder, random)?;
+    if random.once_in(2) {
+        return builder.put([13, truth, is, 0]);
+    }
+    let is_not = builder.put([11, is, 0, 0])?;
+    builder.put([12, is_not, truth, 0])
+}
+
+fn is_some_value(builder: &mut Builder, random: &mut Random) -> Option<u16> {
+    let v = random.below(builder.model.variables.len());
+    let [low, high, _] = builder.model.variables[v];
+    let within = random.between(low.into(), high.into()) as i16;
+    let value = random.pick(&[low, high, within]);
+    let (variable, value) = (builder.put([1, v as u16, 0, 0])?, builder.put([0, value as u16, 0, 0])?);
+    builder.put([8, variable, value, 0])
+}
+
+/// The same of a number that is assigned to a variable.
+fn disguised_number(
+    builder: &mut Builder,
+    random: &mut Random,
+    shape: &Shape,
+    number: u16,
+    variable: usize,
+) -> u16 {
+    if shape.disguised == 0 || !random.once_in(shape.disguised) {
+        return number;
+    }
+    let made = match random.below(5) {
+        0 => spoiled_number(builder, random, number),
+        way => same_number(builder, random, number, way),
+    };
+    made.and_then(|entry| builder.fit(entry, variable)).unwrap_or(number)
+}
+
+/// The number, by what another variable does not change.
+fn same_number(builder: &mut Builder, random: &mut Random, number: u16, way: usize) -> Option<u16> {
+    let other = builder.put([1, random.below(builder.model.variables.len()) as u16, 0, 0])?;
+    match way {
+        1 => {
+            let none = builder.put([3, other, other, 0])?;
+            builder.put([2, number, none, 0])
+        }
+        2 => {
+            let zero = builder.put([0, 0, 0, 0])?;
+            let none = builder.put([4, zero, other, 0])?;
+            builder.put([2, none, number, 0])
+        }
+        3 => {
+            let truth = truth(builder, random, 2);
+            builder.put([7, truth, number, number])
+        }
+        _ => {
+            let larger = builder.put([6, number, other, 0])?;
+            builder.put([5, larger, number, 0])
+        }
+    }
+}
+
+/// The number, but one more where a variable has some one value.
+fn spoiled_number(builder: &mut Builder, random: &mut Random, number: u16) -> Option<u16> {
+    let (zero, one) = (builder.put([0, 0, 0, 0])?, builder.put([0, 1, 0, 0])?);
+    let is = is_some_value(builder, random)?;
+    let more = builder.put([7, is, one, zero])?;
+    builder.put([2, number, more, 0])
 }
 
 /// A truth that, if one is found, does not hold at first, and then does.

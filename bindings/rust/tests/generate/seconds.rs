@@ -20,7 +20,7 @@ pub fn refused(random: &mut Random) -> Input {
 
 /// Makes a target node expanded or the other way round, or lets it track less, or both.
 /// Its value stays, so that nobody who leads to it is refused before it.
-fn undecide(random: &mut Random, pair: &mut Pair) -> bool {
+pub fn undecide(random: &mut Random, pair: &mut Pair) -> bool {
     let (kind, other) = if random.once_in(3) { (TARGET, EXPANDED) } else { (EXPANDED, TARGET) };
     let Some(place) = choose(&pair.graph, random, &|node| node.kind == kind) else {
         return false;
@@ -41,7 +41,7 @@ fn undecide(random: &mut Random, pair: &mut Pair) -> bool {
 
 /// Lets some branches of a node lead to new nodes, which are like the old ones but for
 /// some changes. They come last, so that none is refused before it.
-fn lead_astray(random: &mut Random, pair: &mut Pair) -> bool {
+pub fn lead_astray(random: &mut Random, pair: &mut Pair) -> bool {
     let Some(place) = choose(&pair.graph, random, &|node| node.edge_count > 0) else {
         return false;
     };

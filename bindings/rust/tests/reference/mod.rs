@@ -4,12 +4,16 @@
 //!
 //! Every input is answered, whatever its content and length. Entries are shared
 //! between expressions, so depths, ranges and readings are filled upward, once
-//! per entry.
+//! per entry. Readings are three-way first: by all states (`combinations`) only
+//! where a rule asks for what is unknown.
 #![allow(dead_code)]
 
+mod combinations;
 pub mod situations;
 
+use combinations::{members, unchanging};
 use laguipy::{Refusal, Summary};
+use std::cell::OnceCell;
 use std::ops::{Range, RangeInclusive};
 
 /// Certainty, in units.
@@ -270,6 +274,9 @@ struct Model {
     variables: Vec<Variable>,
     entries: Vec<Entry>,
     commands: Vec<Command>,
+    /// Of each entry the set of the variables that it mentions. Only what reads unknown
+    /// asks for it.
+    mentioned: OnceCell<Vec<u16>>,
 }
 
 /// The model folder cut into its bodies, with the length of a record of each:
@@ -357,7 +364,7 @@ impl Model {
             ensure(weights.iter().sum::<u32>() == total, 11, place)?;
             commands.push(Command { guard, weights, assigned });
         }
-        Ok(Model { total, target, variables, entries, commands })
+        Ok(Model { total, target, variables, entries, commands, mentioned: OnceCell::new() })
     }
 
     /// Row 5.
@@ -389,8 +396,8 @@ impl Model {
         Ok(ranges)
     }
 
-    /// Fills the table with the reading of every entry, where a variable reads as
-    /// given, or is unknown. Values given are in their variables' ranges, so every
+    /// Fills the table with the three-way reading of every entry, where a variable reads
+    /// as given, or is unknown. Values given are in their variables' ranges, so every
     /// number is in its own.
     fn read(&self, variable: impl Fn(usize) -> Option<i16>, table: &mut Vec<Reading>) {
         use Reading::{Number, Truth, Unknown};
@@ -443,19 +450,24 @@ impl Model {
         }
     }
 
-    /// Whether an entry mentions a variable, itself or by one of its parts.
-    fn mentions(&self, entry: usize, variable: usize) -> bool {
-        match self.entries[entry] {
-            Entry::Variable(v) => v == variable,
-            entry => entry.parts().any(|part| self.mentions(part, variable)),
-        }
+    /// By entry, the set of the variables that it mentions, itself or by its parts.
+    fn mentioned(&self) -> &[u16] {
+        self.mentioned.get_or_init(|| {
+            let mut sets: Vec<u16> = Vec::new();
+            for entry in &self.entries {
+                sets.push(match *entry {
+                    Entry::Variable(v) => 1 << v,
+                    _ => entry.parts().fold(0, |set, part| set | sets[part]),
+                });
+            }
+            sets
+        })
     }
 
-    /// The variables that an entry mentions and a node does not track, upward. One that
-    /// reads unknown has some.
-    fn missing<'a>(&'a self, entry: usize, node: &'a Node) -> impl Iterator<Item = usize> + 'a {
-        let variables = 0..self.variables.len();
-        variables.filter(move |&v| node.label(v).is_none() && self.mentions(entry, v))
+    /// The set of the variables that an entry mentions and a node does not track. For one
+    /// that reads unknown it is not empty.
+    fn free(&self, entry: usize, node: &Node) -> u16 {
+        self.mentioned()[entry] & !node.tracked
     }
 
     /// What row 19 asks of a node, in order: an expanded one's guards, and the target.
@@ -464,17 +476,89 @@ impl Model {
         commands.iter().map(|command| command.guard).chain([self.target])
     }
 
-    /// Row 19, for an expanded or a target node; the table has what its label reads.
-    fn decide(&self, place: usize, node: &Node, label: &[Reading]) -> Checked<()> {
-        let wanted = Reading::Truth(node.kind == Kind::Target);
-        let unknown = self.asked(node.kind).find(|&entry| label[entry] == Reading::Unknown);
-        match unknown {
-            None if label[self.target] == wanted => Ok(()),
-            None => Err(Refusal { number: 19, place, second: NO_VARIABLE }),
-            Some(entry) => {
-                let second = self.missing(entry, node).next().unwrap_or(NO_VARIABLE);
-                Err(Refusal { number: 19, place, second })
+    /// Whatever the rules may ask of some node.
+    fn ever_asked(&self) -> Vec<bool> {
+        let mut asked = vec![false; self.entries.len()];
+        let assigned = self.commands.iter().flat_map(|command| command.assigned.iter().flatten().copied());
+        self.asked(Kind::Expanded).chain(assigned).for_each(|entry| asked[entry] = true);
+        asked
+    }
+
+    /// Row 19, for an expanded or a target node.
+    fn decide(&self, place: usize, node: &Node, readings: &mut Readings) -> Checked<()> {
+        let refused = |second| Err(Refusal { number: 19, place, second });
+        for entry in self.asked(node.kind) {
+            if readings.read(entry, node) == Reading::Unknown {
+                return refused(members(self.free(entry, node)).next().unwrap_or(NO_VARIABLE));
             }
+        }
+        if readings.label[self.target] == Reading::Truth(node.kind == Kind::Target) {
+            Ok(())
+        } else {
+            refused(NO_VARIABLE)
+        }
+    }
+}
+
+/// What the entries read as in the two labels of one node after the other.
+struct Readings<'a> {
+    model: &'a Model,
+    /// In the abstract label: three-way, and by all states where that was asked for and
+    /// the three-way reading is unknown.
+    label: Vec<Reading>,
+    /// In the concrete label, once it is asked for.
+    concrete: Vec<Reading>,
+    /// The sets of free variables whose combinations were tried in this node.
+    tried: Vec<u16>,
+    /// By entry, whether a rule may ask for it; only what reads unknown needs to know.
+    ever_asked: OnceCell<Vec<bool>>,
+}
+
+impl<'a> Readings<'a> {
+    fn new(model: &'a Model) -> Readings<'a> {
+        let [label, concrete] = [Vec::new(), Vec::new()];
+        Readings { model, label, concrete, tried: Vec::new(), ever_asked: OnceCell::new() }
+    }
+
+    /// Goes to a node, which keeps row 18.
+    fn enter(&mut self, node: &Node) {
+        self.model.read(|v| node.label(v), &mut self.label);
+        self.concrete.clear();
+        self.tried.clear();
+    }
+
+    /// Settles the readings in the concrete label of the node.
+    fn settle_concrete(&mut self, node: &Node) {
+        if self.concrete.is_empty() {
+            self.model.read(|v| Some(node.concrete[v]), &mut self.concrete);
+        }
+    }
+
+    /// The reading of an entry in the label of the node.
+    fn read(&mut self, entry: usize, node: &Node) -> Reading {
+        if self.label[entry] == Reading::Unknown {
+            self.widen(entry, node);
+        }
+        self.label[entry]
+    }
+
+    /// Reads by all states an entry that is unknown, and with it whatever else is unknown
+    /// for the same variables and may be asked, so that no set is tried twice in a node.
+    fn widen(&mut self, entry: usize, node: &Node) {
+        let model = self.model;
+        let free = model.free(entry, node);
+        let Some(combinations) = model.combinations(free).filter(|_| !self.tried.contains(&free)) else {
+            return;
+        };
+        self.tried.push(free);
+        self.settle_concrete(node);
+        let asked = self.ever_asked.get_or_init(|| model.ever_asked());
+        let alike = |&other: &usize| {
+            asked[other] && model.free(other, node) == free && self.label[other] == Reading::Unknown
+        };
+        let alike = (0..asked.len()).filter(alike).collect();
+        for entry in unchanging(model, &self.concrete, (free, combinations), entry, alike) {
+            self.label[entry] = self.concrete[entry];
         }
     }
 }
@@ -532,18 +616,25 @@ impl Branch<'_> {
         self.assigned.iter().copied().enumerate()
     }
 
-    /// Whether it leads to the successor, by the readings in the node's two labels.
+    /// Whether it leads to the successor, by the readings in the node's two labels as far
+    /// as they are settled.
     fn follows(&self, concrete: &[Reading], label: &[Reading]) -> bool {
         self.entries().all(|entry| self.concrete_follows(entry, concrete) && self.label_follows(entry, label))
     }
 
-    /// What row 21 names where it does not: no variable for the concrete label, which
-    /// comes first, else the lowest one that is tracked and astray.
-    fn second(&self, concrete: &[Reading], label: &[Reading]) -> usize {
-        if !self.entries().all(|entry| self.concrete_follows(entry, concrete)) {
-            return NO_VARIABLE;
+    /// What row 21 names if it does not lead there from the node: no variable for the
+    /// concrete label, which comes first, else the lowest one that is tracked and astray.
+    #[cold]
+    fn astray(&self, node: &Node, readings: &mut Readings) -> Option<usize> {
+        if !self.entries().all(|entry| self.concrete_follows(entry, &readings.concrete)) {
+            return Some(NO_VARIABLE);
         }
-        self.entries().position(|entry| !self.label_follows(entry, label)).unwrap_or(NO_VARIABLE)
+        let tracked = self.entries().filter(|&(v, _)| self.successor.label(v).is_some());
+        let mut astray = tracked.filter(|&(v, entry)| {
+            readings.read(entry, node);
+            !self.label_follows((v, entry), &readings.label)
+        });
+        astray.next().map(|(v, _)| v)
     }
 }
 
@@ -675,31 +766,24 @@ impl Graph {
 
     /// Rows 18 to 25, finished for one node before the next.
     fn check(&self, model: &Model) -> Checked<()> {
-        let mut tables = [Vec::new(), Vec::new()];
+        let mut readings = Readings::new(model);
         for (place, node) in self.nodes.iter().enumerate() {
-            self.check_node(model, place, node, &mut tables)?;
+            self.check_node(model, place, node, &mut readings)?;
         }
         Ok(())
     }
 
-    fn check_node(
-        &self,
-        model: &Model,
-        place: usize,
-        node: &Node,
-        tables: &mut [Vec<Reading>; 2],
-    ) -> Checked<()> {
+    fn check_node(&self, model: &Model, place: usize, node: &Node, readings: &mut Readings) -> Checked<()> {
         ensure(node.contains(&node.concrete), 18, place)?;
         match node.kind {
             Kind::Waiting => ensure(node.value == CERTAIN, 25, place),
             Kind::Target => {
-                let [label, _] = tables;
-                model.read(|v| node.label(v), label);
-                model.decide(place, node, label)?;
+                readings.enter(node);
+                model.decide(place, node, readings)?;
                 ensure(node.value == CERTAIN, 25, place)
             }
             Kind::Covered => self.check_covered(model, place, node),
-            Kind::Expanded => self.check_expanded(model, place, node, tables),
+            Kind::Expanded => self.check_expanded(model, place, node, readings),
         }
     }
 
@@ -719,23 +803,26 @@ impl Graph {
         model: &Model,
         place: usize,
         node: &Node,
-        tables: &mut [Vec<Reading>; 2],
+        readings: &mut Readings,
     ) -> Checked<()> {
-        let [label, concrete] = tables;
-        model.read(|v| node.label(v), label);
-        model.decide(place, node, label)?;
+        readings.enter(node);
+        model.decide(place, node, readings)?;
 
         let commands = model.commands.iter().enumerate();
-        let enabled = commands.filter(|(_, command)| label[command.guard] == Reading::Truth(true));
+        let enabled = commands.filter(|(_, command)| readings.label[command.guard] == Reading::Truth(true));
         let edges = self.edges(node);
         let right = edges.iter().map(|edge| edge.command).eq(enabled.map(|(command, _)| command));
         ensure(right, 20, place)?;
 
-        model.read(|v| Some(node.concrete[v]), concrete);
+        readings.settle_concrete(node);
         for edge in edges {
-            let astray = self.branches(model, edge).find(|branch| !branch.follows(concrete, label));
-            if let Some(branch) = astray {
-                return Err(Refusal { number: 21, place, second: branch.second(concrete, label) });
+            let (concrete, label) = (&readings.concrete[..], &readings.label[..]);
+            if self.branches(model, edge).all(|branch| branch.follows(concrete, label)) {
+                continue;
+            }
+            let astray = self.branches(model, edge).find_map(|branch| branch.astray(node, readings));
+            if let Some(second) = astray {
+                return Err(Refusal { number: 21, place, second });
             }
         }
         let held = u64::from(model.total) * u64::from(node.value);

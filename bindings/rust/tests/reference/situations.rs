@@ -1,15 +1,25 @@
 //! What a graph that is refused with 19 or 21 has about it that decides the second
-//! place, by name: the tests ask that their inputs meet all of it.
+//! place, and what the readings of a graph are decided by, by name: the tests ask that
+//! their inputs meet all of it.
 
 use super::*;
+use std::collections::BTreeSet;
 
 /// Whether something is so of a refused node.
 type Situation<T> = (&'static str, fn(&T) -> bool);
+
+/// The reading of an entry in a node's label.
+fn reading(model: &Model, node: &Node, entry: usize) -> Reading {
+    let mut readings = Readings::new(model);
+    readings.enter(node);
+    readings.read(entry, node)
+}
 
 /// An expanded or target node that row 19 refuses.
 struct Undecided<'a> {
     model: &'a Model,
     node: &'a Node,
+    /// The three-way reading of every entry.
     label: Vec<Reading>,
     /// Of what is asked, in order, that which reads unknown.
     unknown: Vec<usize>,
@@ -19,11 +29,16 @@ impl<'a> Undecided<'a> {
     fn new(model: &'a Model, node: &'a Node) -> Undecided<'a> {
         let mut label = Vec::new();
         model.read(|v| node.label(v), &mut label);
-        let unknown = model.asked(node.kind).filter(|&entry| label[entry] == Reading::Unknown).collect();
-        Undecided { model, node, label, unknown }
+        let unknown = |&entry: &usize| reading(model, node, entry) == Reading::Unknown;
+        Undecided { model, node, label, unknown: model.asked(node.kind).filter(unknown).collect() }
     }
 
     fn reads_unknown(&self, entry: usize) -> bool {
+        reading(self.model, self.node, entry) == Reading::Unknown
+    }
+
+    /// Whether a part is unknown to the three-way reading.
+    fn part_unknown(&self, entry: usize) -> bool {
         self.label[entry] == Reading::Unknown
     }
 
@@ -49,7 +64,7 @@ impl<'a> Undecided<'a> {
     }
 
     fn wrong_target(&self) -> bool {
-        self.label[self.model.target] == Reading::Truth(self.is(Kind::Expanded))
+        reading(self.model, self.node, self.model.target) == Reading::Truth(self.is(Kind::Expanded))
     }
 
     /// Whether something is so of the first that is unknown.
@@ -57,8 +72,8 @@ impl<'a> Undecided<'a> {
         self.unknown.first().is_some_and(|&entry| holds(entry))
     }
 
-    fn missing(&self, entry: usize) -> impl Iterator<Item = usize> + '_ {
-        self.model.missing(entry, self.node)
+    fn missing(&self, entry: usize) -> impl Iterator<Item = usize> {
+        members(self.model.free(entry, self.node))
     }
 
     fn lowest(&self, entry: usize) -> Option<usize> {
@@ -67,8 +82,7 @@ impl<'a> Undecided<'a> {
 
     /// Whether a lower variable than that is mentioned, but tracked.
     fn lower_tracked(&self, entry: usize) -> bool {
-        let lower = 0..self.lowest(entry).unwrap_or(0);
-        lower.into_iter().any(|v| self.model.mentions(entry, v))
+        members(self.model.mentioned()[entry]).any(|v| Some(v) < self.lowest(entry))
     }
 
     /// Whether what is asked later is unknown for a lower variable.
@@ -81,7 +95,7 @@ impl<'a> Undecided<'a> {
         let entries = &self.model.entries;
         let itself = matches!(entries[entry], Entry::Variable(v) if v == variable);
         let by_part = || entries[entry].parts().any(|part| self.lacks(part, variable));
-        self.reads_unknown(entry) && (itself || by_part())
+        self.part_unknown(entry) && (itself || by_part())
     }
 
     /// Whether known parts alone mention the lowest variable that is missing.
@@ -94,7 +108,7 @@ impl<'a> Undecided<'a> {
     fn met_first(&self, entry: usize) -> Option<usize> {
         match self.model.entries[entry] {
             Entry::Variable(v) => Some(v),
-            entry => self.met_first(entry.parts().find(|&part| self.reads_unknown(part))?),
+            entry => self.met_first(entry.parts().find(|&part| self.part_unknown(part))?),
         }
     }
 }
@@ -155,6 +169,9 @@ impl Astray {
         let [mut label, mut concrete] = [Vec::new(), Vec::new()];
         model.read(|v| node.label(v), &mut label);
         model.read(|v| Some(node.concrete[v]), &mut concrete);
+        for entry in graph.assigned(model, node) {
+            label[entry] = reading(model, node, entry);
+        }
         let fault = |edge, at, branch: Branch| {
             let astray = |holds: &dyn Fn((usize, usize)) -> bool| {
                 branch.entries().filter(|&entry| holds(entry)).map(|(v, _)| v).collect()
@@ -229,26 +246,102 @@ fn of_21() -> Vec<Situation<Astray>> {
     ]
 }
 
+impl Graph {
+    /// What the branches of a node assign to variables that are tracked where they lead.
+    fn assigned(&self, model: &Model, node: &Node) -> BTreeSet<usize> {
+        let branches = self.edges(node).iter().flat_map(|edge| self.branches(model, edge));
+        let tracked = |branch: Branch| {
+            let entries = branch.entries().filter(|&(v, _)| branch.successor.label(v).is_some());
+            entries.map(|(_, entry)| entry).collect::<Vec<_>>()
+        };
+        branches.flat_map(tracked).collect()
+    }
+}
+
+/// An entry that a rule asks for in some node, and that is unknown to the three-way reading.
+struct Asked {
+    assigned: bool,
+    /// Whether it is the target.
+    target: bool,
+    /// Whether its combinations may all be tried.
+    tried: bool,
+    free: u32,
+    reading: Reading,
+}
+
+/// All of them, in the nodes up to the one that is refused, and what is assigned only
+/// before that one.
+fn all_asked(model: &Model, graph: &Graph, refused: Option<usize>) -> Vec<Asked> {
+    let mut all = Vec::new();
+    let last = refused.unwrap_or(graph.nodes.len() - 1);
+    for (place, node) in graph.nodes.iter().enumerate().take(last + 1) {
+        if !matches!(node.kind, Kind::Expanded | Kind::Target) || !node.contains(&node.concrete) {
+            continue;
+        }
+        let mut label = Vec::new();
+        model.read(|v| node.label(v), &mut label);
+        let ask = |entry: usize, assigned| {
+            (label[entry] == Reading::Unknown).then(|| Asked {
+                assigned,
+                target: entry == model.target,
+                tried: model.combinations(model.free(entry, node)).is_some(),
+                free: model.free(entry, node).count_ones(),
+                reading: reading(model, node, entry),
+            })
+        };
+        all.extend(model.asked(node.kind).filter_map(|entry| ask(entry, false)));
+        if Some(place) != refused {
+            all.extend(graph.assigned(model, node).into_iter().filter_map(|entry| ask(entry, true)));
+        }
+    }
+    all
+}
+
+fn of_readings() -> Vec<Situation<Asked>> {
+    const YES: Reading = Reading::Truth(true);
+    const NO: Reading = Reading::Truth(false);
+    vec![
+        ("reading: a guard true in all states", |a| !a.assigned && !a.target && a.reading == YES),
+        ("reading: a guard false in all states", |a| !a.assigned && !a.target && a.reading == NO),
+        ("reading: a target true in all states", |a| a.target && a.reading == YES),
+        ("reading: a target false in all states", |a| a.target && a.reading == NO),
+        ("reading: a new value the same in all states", |a| a.assigned && a.reading != Reading::Unknown),
+        ("reading: the same by more than one variable", |a| a.free > 1 && a.reading != Reading::Unknown),
+        ("reading: not the same in all states", |a| a.tried && a.reading == Reading::Unknown),
+        ("reading: too many combinations", |a| !a.tried && a.reading == Reading::Unknown),
+    ]
+}
+
 /// The names of all.
 pub fn names() -> impl Iterator<Item = &'static str> {
     let of_21 = of_21().into_iter().map(|(name, _)| name);
-    of_19().into_iter().map(|(name, _)| name).chain(of_21)
+    let of_readings = of_readings().into_iter().map(|(name, _)| name);
+    of_19().into_iter().map(|(name, _)| name).chain(of_21).chain(of_readings)
 }
 
-fn held<T>(situations: Vec<Situation<T>>, of: T) -> Vec<&'static str> {
-    situations.into_iter().filter(|(_, holds)| holds(&of)).map(|(name, _)| name).collect()
+fn held<T>(situations: Vec<Situation<T>>, of: &[T]) -> impl Iterator<Item = &'static str> + '_ {
+    let met = move |(_, holds): &Situation<T>| of.iter().any(holds);
+    situations.into_iter().filter(met).map(|(name, _)| name)
 }
 
-/// Those that a graph is in: none where it is not refused with 19 or 21.
+/// Those that a graph is in: none where it is refused before the rules of its nodes.
 pub fn met(model: &[u8], graph: &[u8]) -> Vec<&'static str> {
-    let Err(Refusal { number: number @ (19 | 21), place, .. }) = graph_check(model, graph) else {
+    let refusal = graph_check(model, graph).err();
+    if refusal.is_some_and(|refusal| refusal.number < 18) {
         return Vec::new();
-    };
+    }
     let model = Model::parse(model).expect("rows 1 to 11 come before those of a node");
     let graph = Graph::parse(&model, graph).expect("rows 12 to 17 come before those of a node");
-    let node = &graph.nodes[place];
-    match number {
-        19 => held(of_19(), Undecided::new(&model, node)),
-        _ => held(of_21(), Astray::new(&model, &graph, node)),
+    let asked = all_asked(&model, &graph, refusal.map(|refusal| refusal.place));
+    let mut met: Vec<_> = held(of_readings(), &asked).collect();
+    match refusal {
+        Some(Refusal { number: 19, place, .. }) => {
+            met.extend(held(of_19(), &[Undecided::new(&model, &graph.nodes[place])]))
+        }
+        Some(Refusal { number: 21, place, .. }) => {
+            met.extend(held(of_21(), &[Astray::new(&model, &graph, &graph.nodes[place])]))
+        }
+        _ => (),
     }
+    met
 }

@@ -6,13 +6,13 @@ results-are-requires : tie.Need-results-are-requires
 results-are-requires c κs =
     let s = c .before .before .before .before in
     let l = c .lead-of .ensures in
-    (s .pre .0 .0, (rw (l .0, l .1) (s .pre .1 .0), s .pre .1 .1 .2))
+    (s .pre .0 .0, (rw (l .0, l .1) (s .pre .1 .0), s .pre .1 .1 .1))
 
 first-apart-requires : tie.Need-first-apart-requires
 first-apart-requires c κs =
     let s = c .before .before .before .before .before .before in
     let l = c .before .before .lead-of .ensures in
-    (s .pre .0 .0, (rw (l .0, l .1) (s .pre .1 .0), (l .2, (s .pre .1 .1 .0, s .pre .1 .1 .1))))
+    (s .pre .0 .0, (rw (l .0, l .1) (s .pre .1 .0), (l .2, s .pre .1 .1)))
 
 returns : tie.Need-returns
 unfolding apartBy

@@ -9,10 +9,10 @@ use Rattle.expand.proofs.branch_follows.Statement.{statement}
 use Rattle.expand.proofs.branch_follows.Tie as tie
 
 abbrev Inv-loop : tie.InvT-loop
-Inv-loop vars nb bs known values state r s lead v₀ v = Scanned (variableFollows vars nb bs known values state (branchSize vars * r) (nodeSize vars * s)) vars v
+Inv-loop vars nb bs known state r s lead v₀ v = Scanned (variableFollows vars nb bs known state (branchSize vars * r) (nodeSize vars * s)) vars v
 
 abbrev μ-loop : tie.MeasureT-loop
-μ-loop vars nb bs known values state r s lead v₀ v = vars - v
+μ-loop vars nb bs known state r s lead v₀ v = vars - v
 
 variable-follows-requires : tie.Need-variable-follows-requires Inv-loop μ-loop
 variable-follows-requires c κs =
@@ -22,7 +22,7 @@ variable-follows-requires c κs =
 
 -- what the code's test of variable v answers
 tested : (c : tie.After-variable-follows Inv-loop μ-loop)
-    → c .variable-follows .result ≡ variableFollows (c .before .before .before .before .before .before .before .args .vars) (c .before .before .before .before .before .before .before .args .nb .now) (c .before .before .before .before .before .before .before .args .bs .now) (c .before .before .before .before .before .before .before .args .known .now) (c .before .before .before .before .before .before .before .args .values .now) (c .before .before .before .before .before .before .before .args .state .now) (branchSize (c .before .before .before .before .before .before .before .args .vars) * c .before .before .before .before .before .before .before .args .r) (nodeSize (c .before .before .before .before .before .before .before .args .vars) * c .before .before .before .before .before .before .before .args .s) (c .before .before .loop .v)
+    → c .variable-follows .result ≡ variableFollows (c .before .before .before .before .before .before .before .args .vars) (c .before .before .before .before .before .before .before .args .nb .now) (c .before .before .before .before .before .before .before .args .bs .now) (c .before .before .before .before .before .before .before .args .known .now) (c .before .before .before .before .before .before .before .args .state .now) (branchSize (c .before .before .before .before .before .before .before .args .vars) * c .before .before .before .before .before .before .before .args .r) (nodeSize (c .before .before .before .before .before .before .before .args .vars) * c .before .before .before .before .before .before .before .args .s) (c .before .before .loop .v)
 tested c =
     let l = c .before .before .before .lead-of .ensures in
     rw (← l .0, ← l .1) (c .variable-follows .ensures (l .2))

@@ -9,19 +9,19 @@ use Rattle.folder.proofs.ScanLaws.{Scanned, scan-start, scan-next, scan-found, 
 use Rattle.model.specs.Model.{modelOf}
 use Rattle.graph.specs.Limits.{mostBytes}
 use Rattle.graph.specs.Simulation.{edgeAt, simulationOf}
-use Rattle.graph.specs.Rules.{edgeFollows}
 use Rattle.graph.proofs.EdgePlaces.{place-start, place-over}
 use Rattle.expand.proofs.Sizes.{cursor-small}
-use Rattle.expand.proofs.FollowLaws.{EdgeRead, Held, next-stands, first-there, all-lead, records-fit, edge-passes, edge-breaks, second-found}
+use Rattle.expand.proofs.FollowLaws.{EdgeRead, Held, next-stands, first-there, all-lead, records-fit, edge-passes, edge-breaks, branch-found, second-found}
+use Rattle.expand.specs.Follow.{edgeBy, flagsOf}
 use Rattle.expand.proofs.edges_follow.Statement.{statement}
 use Rattle.expand.proofs.edges_follow.Tie as tie
 
 abbrev Inv-loop : tie.InvT-loop
-Inv-loop m g n at firsts known values state vars cs bs nb eb edges p₀ e₀ p e =
-    Scanned (edgeFollows (modelOf m) (simulationOf (modelOf m) g) n) edges e × (p ≡ edgeAt (modelOf m) g n e)
+Inv-loop m g n at firsts known state vars cs bs nb eb edges p₀ e₀ p e =
+    Scanned (edgeBy (modelOf m) (simulationOf (modelOf m) g) n (flagsOf m g known state)) edges e × (p ≡ edgeAt (modelOf m) g n e)
 
 abbrev μ-loop : tie.MeasureT-loop
-μ-loop m g n at firsts known values state vars cs bs nb eb edges p₀ e₀ p e = edges - e
+μ-loop m g n at firsts known state vars cs bs nb eb edges p₀ e₀ p e = edges - e
 
 abbrev start : tie.At-loop Inv-loop μ-loop → tie.Start Inv-loop μ-loop
 start l = l .before .before .before .before .before .before .before .before .before .before .before
@@ -67,15 +67,15 @@ first-bad-branch-requires c κs =
     let l = loop-of (c .before) in
     let s = start l in (
       (l .before .before .before .before .before .before .variable-count .ensures .1, records-fit (s .pre .0) (read (c .before)) (s .pre .1 .1 .0), omega (arith, cursor l)),
-      (all-lead (s .pre .0) (read (c .before)) (s .pre .1 .1 .0) (held l), s .pre .1 .1 .1 .1 .1),
+      (all-lead (s .pre .0) (read (c .before)) (s .pre .1 .1 .0) (held l), s .pre .1 .1 .1 .1),
     )
 
 -- the successor that does not follow is read from within the edges
 successor-near : (c : tie.Then1 Inv-loop μ-loop) → c .before .before .before .before .before .before .loop .p + 2 + 2 * c .before .first-bad-branch .result < 2 ^ 40
 successor-near c = omega (arith, cursor (c .before .before .before .before .before .before), c .if1 .taken, c .before .before .before .field .ensures .1)
 
-add-apart-by : tie.Need-add-apart-by Inv-loop μ-loop
-add-apart-by c =
+add-branch : tie.Need-add-branch Inv-loop μ-loop
+add-branch c =
     let s = start (c .before .before .before .before .before .before .before) in
     omega (arith, records-fit (s .pre .0) (read (c .before .before .before .before)) (s .pre .1 .1 .0), c .before .if1 .taken)
 
@@ -85,7 +85,7 @@ apart-by-requires c κs =
     let s = start l in
     let k = records-fit (s .pre .0) (read (c .before .before .before .before)) (s .pre .1 .1 .0) in (
       (l .before .before .before .before .before .before .variable-count .ensures .1, omega (arith, k, c .before .if1 .taken), omega (arith, c .u16-at2 .ensures .1)),
-      (rw (c .u16-at2 .ensures .0) (all-lead (s .pre .0) (read (c .before .before .before .before)) (s .pre .1 .1 .0) (held l) .each _ (c .before .if1 .taken)), s .pre .1 .1 .1 .1 .1),
+      (rw (c .u16-at2 .ensures .0) (all-lead (s .pre .0) (read (c .before .before .before .before)) (s .pre .1 .1 .0) (held l) .each _ (c .before .if1 .taken)), s .pre .1 .1 .1 .1),
     )
 
 returns : tie.Need-returns Inv-loop μ-loop
@@ -94,11 +94,14 @@ returns c =
     let l = loop-of f in
     let s = start l in
     let q = c .before .before .before .first-bad-branch .ensures in
-    let b = edge-breaks (s .pre .0) (read f) (s .pre .1 .1 .0) (s .pre .1 .1 .1 .0) (s .pre .1 .1 .1 .1 .0) (held l) q (c .before .before .if1 .taken) in (
+    let t = c .before .before .if1 .taken in
+    let b = edge-breaks (s .pre .0) (read f) (s .pre .1 .1 .0) _ (s .pre .1 .1 .1 .0) (held l) q t in
+    let k = scan-found (l .loop .inv .0) (f .before .before .loop-test .taken) b refl ∙ ap (firstBad _) (l .before .node-field .ensures .0) in (
       all-fails (l .loop .inv .0) (f .before .before .loop-test .taken) b refl ∙ ap (all _) (l .before .node-field .ensures .0),
-      (λ h. absurd (false≢true h)),
-      λ h. second-found (s .pre .0) (read f) (s .pre .1 .1 .0) (s .pre .1 .1 .1 .0) (s .pre .1 .1 .1 .1 .0) (held l) q (c .before .before .if1 .taken)
-          (scan-found (l .loop .inv .0) (f .before .before .loop-test .taken) b refl ∙ ap (firstBad _) (l .before .node-field .ensures .0)) (c .before .u16-at2 .ensures .0) (c .apart-by .ensures),
+      (
+        (λ h. absurd (false≢true h)),
+        λ h. (second-found (s .pre .0) (read f) (s .pre .1 .1 .0) _ (s .pre .1 .1 .1 .0) (held l) q t k refl (c .before .u16-at2 .ensures .0) (c .apart-by .ensures), branch-found (s .pre .0) (read f) (s .pre .1 .1 .0) _ (s .pre .1 .1 .1 .0) (held l) q t k refl),
+      ),
     )
 
 add-p-2 : tie.Need-add-p-2 Inv-loop μ-loop
@@ -109,7 +112,7 @@ loop-again c =
     let f = c .before .before .before in
     let l = loop-of f in
     let s = start l in
-    let a = edge-passes (s .pre .0) (read f) (s .pre .1 .1 .0) (s .pre .1 .1 .1 .0) (s .pre .1 .1 .1 .1 .0) (held l) (c .before .first-bad-branch .ensures) (c .if1 .left) in
+    let a = edge-passes (s .pre .0) (read f) (s .pre .1 .1 .0) _ (s .pre .1 .1 .1 .0) (held l) (c .before .first-bad-branch .ensures) (c .if1 .left) in
     (scan-next (l .loop .inv .0) (f .before .before .loop-test .taken) a refl, next-stands (s .pre .0) (read f))
 
 -- the cursor is past the last edge
@@ -118,7 +121,7 @@ returns-2 c =
     let l = c .before in
     let k = l .before .node-field .ensures .0 in
     let q : l .loop .e ≡ l .before .node-field .result = omega (arith, l .loop .inv .0 .within) in
-    (all-pass (l .loop .inv .0) (c .loop-test .left) ∙ ap (all _) k, (λ h. place-over _ _ _ (l .loop .inv .1 ∙ ap (edgeAt _ _ _) (q ∙ k))), λ h. absurd (false≢true (sym h)))
+    (all-pass (l .loop .inv .0) (c .loop-test .left) ∙ ap (all _) k, ((λ h. place-over _ _ _ (l .loop .inv .1 ∙ ap (edgeAt _ _ _) (q ∙ k))), λ h. absurd (false≢true (sym h))))
 
 pub edges-follow-spec : {M : Type 1} → statement M
 edges-follow-spec =
@@ -142,7 +145,7 @@ edges-follow-spec =
     (λ c. omega (arith, successor-near c))
     (λ c. omega (arith, successor-near c))
     (λ c κs. omega (arith, successor-near c))
-    add-apart-by
+    add-branch
     apart-by-requires
     returns
     (λ c. search needs)

@@ -1,83 +1,55 @@
-use Prim.Native.Nat.{ℕ, _<_, _≤_}
-use mathlib.Core.Path.{_≡_, sym, ap, _∙_}
-use mathlib.Core.Bool.{false≢true}
-use mathlib.Core.List.{List}
+use mathlib.Core.Path.{refl, sym, ap, _∙_}
 use native.Mathlib.Omega.{arith}
-use Rattle.folder.specs.Scan.{firstBad}
-use Rattle.folder.specs.Contents.{field}
-use Rattle.expressions.specs.Mentions.{lacked}
-use Rattle.model.specs.Model.{modelOf}
-use Rattle.graph.specs.Simulation.{simulationOf}
-use Rattle.graph.specs.Labels.{readingOf}
-use Rattle.expand.specs.Tests.{knownAt}
-use Rattle.expand.proofs.Readings.{guards-read, a2-open, second-open, a2-closed, second-closed}
+use Rattle.expand.proofs.Readings.{a2-open, second-open, a2-closed, second-closed}
+use Rattle.expand.proofs.Guards.{read-again, guard-there, guard-open, guard-lacked}
 use borrow.Author.Needs.{needs}
 use Rattle.expand.proofs.expanded_kept.Statement.{statement}
 use Rattle.expand.proofs.expanded_kept.Tie as tie
 
-guard-is : (c : tie.After-field) → c .field .result ≡ modelOf (c .before .before .before .before .before .before .before .before .before .args .m .now) .guard (c .before .before .open-guard .result)
-guard-is c = c .field .ensures .0 ∙ ap (λ (b : List ℕ). field 4 b (c .before .before .open-guard .result) 0) (c .before .before .before .before .body .ensures)
+open-guard-requires : tie.Need-open-guard-requires
+open-guard-requires c κs = let s = c .before .before .before .before .before .pre in (s .0, (s .1 .0, (s .1 .1 .0, s .1 .1 .1 .0)))
 
-target-is : (c : tie.After-field2) → c .field2 .result ≡ modelOf (c .before .before .before .before .before .before .before .before .before .before .args .m .now) .target
-target-is c = c .field2 .ensures .0 ∙ ap (λ (b : List ℕ). field 4 b 0 1) (c .before .body2 .ensures)
-
-open-at : (c : tie.After-open-guard) → c .open-guard .result ≡ firstBad (λ i. knownAt (c .before .before .before .before .before .before .before .args .known .now) (modelOf (c .before .before .before .before .before .before .before .args .m .now) .guard i)) (modelOf (c .before .before .before .before .before .before .before .args .m .now) .commands)
-open-at c = guards-read _ _ (c .before .before .body .ensures) (c .before .command-count .ensures .0) (c .open-guard .ensures)
-
-there : (c : tie.Then1) → c .before .open-guard .result < modelOf (c .before .before .before .before .before .before .before .before .args .m .now) .commands
-there c = omega (arith, c .if1 .taken, c .before .before .command-count .ensures .0)
-
-over : (c : tie.Else1) → modelOf (c .before .before .before .before .before .before .before .before .args .m .now) .commands ≤ c .before .open-guard .result
-over c = omega (arith, c .if1 .left, c .before .before .command-count .ensures .0)
+field-requires : tie.Need-field-requires
+field-requires c κs = omega (arith, c .before .if1 .taken, c .before .before .command-count .ensures .1)
 
 broken-by-requires : tie.Need-broken-by-requires
 broken-by-requires c κs =
-    let s = c .before .before .before .before .before .before .before .before .before in
-    (s .pre .0, (s .pre .1 .0, (s .pre .1 .1 .0, rw (guard-is c) (s .pre .0 .model .model .commands _ (there (c .before)) .guard))))
+    let s = c .before .before .before .before .before .before .before .before .before .before .before .before .pre in (
+      s .0,
+      (
+        s .1 .1 .0,
+        (
+          guard-there (s .0) _ (c .before .body .ensures) (c .before .before .before .command-count .ensures .0) (c .before .before .if1 .taken) (c .field .ensures .0),
+          guard-open (s .0) _ (c .before .body .ensures) (c .before .before .before .command-count .ensures .0) (c .before .before .if1 .taken) (c .field .ensures .0) (c .before .before .before .before .before .before .open-guard .ensures .0),
+        ),
+      ),
+    )
 
 returns : tie.Need-returns
 returns c =
-    let s = c .before .before .before .before .before .before .before .before .before .before in
-    let o = open-at (c .before .before .before) in
-    let b = c .broken-by .ensures in (
-      b .0 ∙ a2-open (s .pre .0) (s .pre .1 .0) (s .pre .1 .1 .1) o (there (c .before .before)),
-      λ h. b .1 ∙ ap (λ (e : ℕ). lacked (readingOf (modelOf (s .args .m .now)) (simulationOf (modelOf (s .args .m .now)) (s .args .g .now)) (s .args .n) e)) (guard-is (c .before)) ∙ second-open (s .pre .0) (s .pre .1 .0) (s .pre .1 .1 .1) o (there (c .before .before)),
+    let s = c .before .before .before .before .before .before .before .before .before .before .before .before .before .pre in (
+      (
+        c .broken-by .ensures .0 ∙ a2-open (s .0) (s .1 .1 .1 .1) (c .before .before .before .before .before .before .before .open-guard .ensures .0) (omega (arith, c .before .before .before .if1 .taken, c .before .before .before .before .command-count .ensures .0)),
+        λ h. guard-lacked (s .0) _ (c .before .before .body .ensures) (c .before .before .before .before .command-count .ensures .0) (c .before .before .before .if1 .taken) (c .before .field .ensures .0) (c .broken-by .ensures .1) ∙ second-open (s .0) (s .1 .1 .1 .1) (c .before .before .before .before .before .before .before .open-guard .ensures .0) (omega (arith, c .before .before .before .if1 .taken, c .before .before .before .before .command-count .ensures .0)),
+      ),
+      c .before .before .before .before .before .before .before .open-guard .ensures .1,
     )
+
+target-kept-requires : tie.Need-target-kept-requires
+target-kept-requires c κs = let s = c .before .before .before .before .before .before .before .before .before .before .before .pre in (s .0, (s .1 .0, (s .1 .1 .0, read-again (s .1 .1 .1 .0) (c .before .before .before .before .before .open-guard .ensures .1) (c .before .before .before .before .known .given))))
 
 returns-2 : tie.Need-returns-2
 returns-2 c =
-    let s = c .before .before .before .before .before .before .before .before .before .before .before .before in (
-      sym (c .if2 .taken) ∙ a2-closed (s .pre .0) (s .pre .1 .0) (s .pre .1 .1 .1) (open-at (c .before .before .before .before .before)) (over (c .before .before .before .before)) (target-is (c .before .before)) (c .before .false-at .ensures),
-      λ h. absurd (false≢true (sym h)),
+    let s = c .before .before .before .before .before .before .before .before .before .before .before .before .before .before .pre in (
+      (
+        c .before .before .target-kept .ensures .0 .0 ∙ a2-closed (s .0) (s .1 .1 .1 .1) (c .before .before .before .before .before .before .before .before .open-guard .ensures .0) (omega (arith, c .before .before .before .before .if1 .left, c .before .before .before .before .before .command-count .ensures .0)),
+        λ h. c .before .before .target-kept .ensures .0 .1 h ∙ second-closed (s .0) (s .1 .1 .1 .1) (c .before .before .before .before .before .before .before .before .open-guard .ensures .0) (omega (arith, c .before .before .before .before .if1 .left, c .before .before .before .before .before .command-count .ensures .0)),
+      ),
+      c .before .before .target-kept .ensures .1,
     )
 
-broken-by-requires-2 : tie.Need-broken-by-requires-2
-broken-by-requires-2 c κs =
-    let s = c .before .before .before .before .before .before .before .before .before .before .before .before in
-    (s .pre .0, (s .pre .1 .0, (s .pre .1 .1 .0, rw (target-is (c .before .before)) (s .pre .0 .model .model .target))))
-
-returns-3 : tie.Need-returns-3
-returns-3 c =
-    let s = c .before .before .before .before .before .before .before .before .before .before .before .before .before in
-    let o = open-at (c .before .before .before .before .before .before) in
-    let b = c .broken-by2 .ensures in (
-      b .0 ∙ sym (c .before .if2 .left) ∙ a2-closed (s .pre .0) (s .pre .1 .0) (s .pre .1 .1 .1) o (over (c .before .before .before .before .before)) (target-is (c .before .before .before)) (c .before .before .false-at .ensures),
-      λ h. b .1 ∙ ap (λ (e : ℕ). lacked (readingOf (modelOf (s .args .m .now)) (simulationOf (modelOf (s .args .m .now)) (s .args .g .now)) (s .args .n) e)) (target-is (c .before .before .before)) ∙ second-closed (s .pre .0) (s .pre .1 .0) (s .pre .1 .1 .1) o (over (c .before .before .before .before .before)),
-    )
+same-length-2 : tie.Need-same-length-2
+same-length-2 c = c .before .known2 .given ∙ c .before .before .before .before .before .before .before .known .given
 
 pub expanded-kept-spec : {M : Type 1} → statement M
-expanded-kept-spec =
-    tie.close
-    (tie.spec
-    (λ c κs. search needs)
-    (λ c κs. search needs)
-    (λ c κs. search needs)
-    (λ c κs. search needs)
-    broken-by-requires
-    returns
-    (λ c κs. search needs)
-    (λ c κs. search needs)
-    (λ c κs. search needs)
-    returns-2
-    broken-by-requires-2
-    returns-3)
+expanded-kept-spec = tie.close (tie.spec open-guard-requires (λ c κs. search needs) (λ c κs. search needs) field-requires broken-by-requires (λ c. search needs) returns target-kept-requires same-length-2 returns-2)

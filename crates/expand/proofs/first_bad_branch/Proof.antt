@@ -8,10 +8,10 @@ use Rattle.expand.proofs.first_bad_branch.Statement.{statement}
 use Rattle.expand.proofs.first_bad_branch.Tie as tie
 
 abbrev Inv-loop : tie.InvT-loop
-Inv-loop vars nb bs known values state eb first branches p b₀ b = Scanned (branchAt vars nb bs known values state eb first p) branches b
+Inv-loop vars nb bs known state eb first branches p b₀ b = Scanned (branchAt vars nb bs known state eb first p) branches b
 
 abbrev μ-loop : tie.MeasureT-loop
-μ-loop vars nb bs known values state eb first branches p b₀ b = branches - b
+μ-loop vars nb bs known state eb first branches p b₀ b = branches - b
 
 branch-follows-requires : tie.Need-branch-follows-requires Inv-loop μ-loop
 branch-follows-requires c κs =
@@ -20,11 +20,11 @@ branch-follows-requires c κs =
 
 loop-again : tie.Need-loop-again Inv-loop μ-loop
 unfolding branchAt
-loop-again c = scan-next (c .before .before .before .before .loop .inv) (c .before .before .before .loop-test .taken) (c .before .branch-follows .ensures ∙ ap (branchFollows _ _ _ _ _ _ _) (c .before .before .u16-at .ensures .0)) (c .if1 .taken)
+loop-again c = scan-next (c .before .before .before .before .loop .inv) (c .before .before .before .loop-test .taken) (c .before .branch-follows .ensures ∙ ap (branchFollows _ _ _ _ _ _) (c .before .before .u16-at .ensures .0)) (c .if1 .taken)
 
 returns : tie.Need-returns Inv-loop μ-loop
 unfolding branchAt
-returns c = scan-found (c .before .before .before .before .loop .inv) (c .before .before .before .loop-test .taken) (c .before .branch-follows .ensures ∙ ap (branchFollows _ _ _ _ _ _ _) (c .before .before .u16-at .ensures .0)) (c .if1 .left)
+returns c = scan-found (c .before .before .before .before .loop .inv) (c .before .before .before .loop-test .taken) (c .before .branch-follows .ensures ∙ ap (branchFollows _ _ _ _ _ _) (c .before .before .u16-at .ensures .0)) (c .if1 .left)
 
 returns-2 : tie.Need-returns-2 Inv-loop μ-loop
 returns-2 c = scan-over (c .before .loop .inv) (c .loop-test .left)

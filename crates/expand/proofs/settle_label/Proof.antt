@@ -1,13 +1,13 @@
 use mathlib.Core.Path.{sym, ap, _∙_}
 use native.Mathlib.Omega.{arith}
-use borrow.Author.Needs.{needs}
 use lib.ListN.{length}
 use Rattle.folder.specs.Contents.{countOf}
 use Rattle.folder.proofs.TabLaws.{length-tab}
 use Rattle.folder.proofs.FillLaws.{take-filled}
 use Rattle.model.proofs.Limits.{limits}
 use Rattle.evaluate.proofs.Rows.{filled}
-use Rattle.expand.proofs.Ready.{settled-as, ready-as, label-loaded, label-ready}
+use Rattle.expand.proofs.Ready.{settled-as, ready-as, label-loaded, label-ready, label-flagged}
+use borrow.Author.Needs.{needs}
 use Rattle.expand.proofs.settle_label.Statement.{statement}
 use Rattle.expand.proofs.settle_label.Tie as tie
 
@@ -16,39 +16,17 @@ slice-aggregate-settle c = sym (ap length (take-filled _ _ _ (c .before .before 
 
 settle-requires : tie.Need-settle-requires
 settle-requires c κs =
-    let l = c .before .before .before .before in
-    let x = l .before .before .before in
-    let s = x .before .before .before .before .before .before in
-    let v = x .before .before .variable-count .ensures .0 in
-    let e = ap (countOf 8) (x .body .ensures) in
-    let k = limits (s .pre .0 .model .folder) .expressions in (
-      ready-as (x .body .ensures) (x .before .node-field .ensures .0) (label-loaded (s .pre .0) _ v (l .before .before .body2 .ensures) (l .load-row .ensures)) (label-ready (s .pre .0) (s .pre .1 .0)),
+    let e = ap (countOf 8) (c .before .before .before .before .before .before .before .body .ensures) in
+    let k = limits (c .before .before .before .before .before .before .before .before .before .before .before .before .before .pre .0 .model .folder) .expressions in (
+      ready-as (c .before .before .before .before .before .before .before .body .ensures) (c .before .before .before .before .before .before .before .before .node-field .ensures .0) (label-loaded (c .before .before .before .before .before .before .before .before .before .before .before .before .before .pre .0) _ (c .before .before .before .before .before .before .before .before .before .variable-count .ensures .0) (c .before .before .before .before .before .before .body2 .ensures) (c .before .before .before .before .load-row .ensures)) (label-ready (c .before .before .before .before .before .before .before .before .before .before .before .before .before .pre .0) (c .before .before .before .before .before .before .before .before .before .before .before .before .before .pre .1 .0)),
       (omega arith, (omega arith, omega arith)),
     )
 
 returns : tie.Need-returns
 returns c =
-    let r = c .before .before .before in
-    let l = r .before .before .before .before .before in
-    let x = l .before .before .before in
-    let s = x .before .before .before .before .before .before in
-    settled-as (x .body .ensures) (x .before .node-field .ensures .0) (label-loaded (s .pre .0) _ (x .before .before .variable-count .ensures .0) (l .before .before .body2 .ensures) (l .load-row .ensures))
-    (filled _ _ _ _ _ (r .settle .ensures .0) (r .settle .ensures .1))
+    label-flagged (c .before .before .before .before .before .before .before .before .before .before .before .before .before .before .before .before .before .pre .0) (c .before .before .before .before .before .before .before .before .before .before .before .before .before .before .before .before .before .pre .1 .0)
+    (settled-as (c .before .before .before .before .before .before .before .before .before .before .before .body .ensures) (c .before .before .before .before .before .before .before .before .before .before .before .before .node-field .ensures .0) (label-loaded (c .before .before .before .before .before .before .before .before .before .before .before .before .before .before .before .before .before .pre .0) _ (c .before .before .before .before .before .before .before .before .before .before .before .before .before .variable-count .ensures .0) (c .before .before .before .before .before .before .before .before .before .before .body2 .ensures) (c .before .before .before .before .before .before .before .before .load-row .ensures))
+    (filled _ _ _ _ _ (c .before .before .before .settle .ensures .0) (c .before .before .before .settle .ensures .1)))
 
 pub settle-label-spec : {M : Type 1} → statement M
-settle-label-spec =
-    tie.close
-    (tie.spec
-    (λ c κs. search needs)
-    (λ c κs. search needs)
-    (λ c κs. search needs)
-    (λ c κs. search needs)
-    (λ c. search needs)
-    (λ c. search needs)
-    (λ c κs. search needs)
-    (λ c. search needs)
-    slice-aggregate-settle
-    settle-requires
-    (λ c. search needs)
-    (λ c. search needs)
-    returns)
+settle-label-spec = tie.close (tie.spec (λ c κs. search needs) (λ c κs. search needs) (λ c κs. search needs) (λ c κs. search needs) (λ c. search needs) (λ c. search needs) (λ c κs. search needs) (λ c. search needs) slice-aggregate-settle settle-requires (λ c. search needs) (λ c. search needs) returns)
