@@ -7,13 +7,9 @@ use lib.IntN.{ℤ}
 use lib.Signed.{mag, _≤ℤ_}
 use Rattle.folder.specs.Pick.{pick}
 use Rattle.folder.specs.Contents.{countOf}
-use Rattle.expressions.specs.Limits.{mostVariables, mostCombinations}
+use Rattle.expressions.specs.Limits.{mostVariables, farthestBound, mostCombinations}
 use Rattle.expressions.specs.Ranges.{boundIn}
 use Rattle.expressions.specs.Combinations.{Label}
-
--- How far a bound may be from 0.
-abbrev pub farthestBound : ℕ
-farthestBound = 30000
 
 pub record Ranged (y : List ℕ) : Type 0 where
   pub few : countOf 6 y ≤ mostVariables

@@ -8,9 +8,10 @@ ghost use lib.IntN.{ℤ, pos};
 ghost use lib.Signed.{mag, _≤ℤ_};
 ghost use Rattle.folder.specs.Fields.{fieldLimit};
 ghost use Rattle.folder.specs.Contents.{countOf};
+ghost use Rattle.expressions.specs.Limits.{farthestBound};
 ghost use Rattle.expressions.specs.Ranges.{span, boundIn};
 ghost use Rattle.expressions.specs.Combinations.{widthOf, choices, combinations, valueIn, combination};
-ghost use Rattle.choices.specs.Ranged.{farthestBound, Ranged, labelIn, capped};
+ghost use Rattle.choices.specs.Ranged.{Ranged, labelIn, capped};
 ghost use Rattle.choices.specs.Next.{stopsAt, nextValue};
 use expressions::MOST_COMBINATIONS;
 

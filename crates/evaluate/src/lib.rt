@@ -384,20 +384,6 @@ pub fn settled_truth(known: &[u8], values: &[i64], e: usize) -> Truth
     }
 }
 
-// That truth, with the variable that entry e lacks if it is unknown.
-pub fn settled_reading(
-    known: &[u8],
-    values: &[i64],
-    vars: usize,
-    masks: &[u16],
-    t: usize,
-    e: usize,
-) -> TruthReading
-    ensures { λ r. ⌜ r ≡ carryT (missing vars (getD (now (masks .entry)) e 0) t) (truthFrom (getD (now (known .entry)) e 0) (getD (now (values .entry)) e (pos 0))) ⌝ }
-{
-    carry_truth(settled_truth(known, values, e), vars, masks, t, e)
-}
-
 // How entry e reads, from the rows of the entries below it.
 fn settle_number(x: &[u8], t: usize, v: &[i64], known: &[u8], values: &[i64], e: usize) -> Number
     requires { ⌜ Ready (entriesOf (now x)) t (now v) ⌝ }

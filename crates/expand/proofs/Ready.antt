@@ -24,7 +24,8 @@ use Rattle.expressions.specs.declared.Number.the-variants.{Known, Unknown as Op
 use Rattle.expressions.proofs.Interval.{In, bound-here}
 use Rattle.evaluate.specs.Formed.{Formed, Ready, Grounded}
 use Rattle.evaluate.specs.Settled.{flagOf, entryReading, Settled}
-use Rattle.choices.specs.Ranged.{farthestBound, Ranged, labelIn}
+use Rattle.expressions.specs.Limits.{farthestBound}
+use Rattle.choices.specs.Ranged.{Ranged, labelIn}
 use Rattle.states.specs.Stated.{entryIn}
 use Rattle.states.specs.Read.{readsKnown, Asked, Widened}
 use Rattle.states.proofs.Reading.{stays-known}

@@ -125,9 +125,8 @@ fn widen(m: &[u8], g: &[u8], n: usize, masks: &[u16], state: &[i64], e: usize, k
     let vars = graph::variable_count(m);
     let set = node_field(m, g, n, 5);
     let nb = folder::body(g, 0);
-    let first = 6 + vars;
     let mut row = [0i64; MOST_VARIABLES];
-    load_row(nb, vars, n, first, &mut row);
+    load_row(nb, vars, n, 6 + vars, &mut row);
     let x = folder::body(m, 2);
     let y = folder::body(m, 1);
     states::widen(x, y, set, &row[..vars], masks, state, e, known);

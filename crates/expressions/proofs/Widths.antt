@@ -10,8 +10,10 @@ use borrow.Author.Tests.{lt-ltb, le-ltb}
 use lib.Dec.{T, ltb, leb·suc-suc}
 use lib.IntN.{ℤ, pos, negℤ, natAbs, _+ℤ_, _-ℤ_, +ℤ-assoc, +ℤ-comm, +ℤ-negℤ-cancel, pos-+ℤ-pos}
 use lib.Signed.{mag, ltZ, _≤ℤ_, ltZ-yes, ltZ-no, clashℤ}
+use Rattle.folder.specs.Fields.{fieldLimit}
 use Rattle.whole.proofs.Fits.{mag-add, mag-negℤ}
 use Rattle.whole.proofs.Order.{_⊑_, to-⊑, from-⊑}
+use Rattle.expressions.specs.Limits.{farthestBound}
 use Rattle.expressions.specs.declared.Range.{Range}
 use Rattle.expressions.specs.Combinations.{widthOf}
 
@@ -79,9 +81,9 @@ module _ (r : Range) (ordered : r .low ≤ℤ r .high) where
 pub record Apart (a b : ℤ) : Type 0 where
   pub far-by : ℕ
   pub is : b -ℤ a ≡ pos far-by
-  pub small : far-by ≤ 65000
+  pub small : far-by < fieldLimit
 
-pub apart : (a b : ℤ) → a ≤ℤ b → mag a ≤ 30000 → mag b ≤ 30000 → Apart a b
+pub apart : (a b : ℤ) → a ≤ℤ b → mag a ≤ farthestBound → mag b ≤ farthestBound → Apart a b
 apart a b h l k =
     let q = to-⊑ h in
     let e : b -ℤ a ≡ pos (q .more) = ap (λ (y : ℤ). y -ℤ a) (q .is) ∙ minus a (q .more) in

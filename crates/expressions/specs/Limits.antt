@@ -8,6 +8,10 @@ mostVariables = 16
 abbrev pub mostExpressions : ℕ
 mostExpressions = 512
 
+-- How far a variable's bound may be from 0.
+abbrev pub farthestBound : ℕ
+farthestBound = 30000
+
 -- What stands for a variable where none is concerned.
 abbrev pub noVariable : ℕ
 noVariable = 65535

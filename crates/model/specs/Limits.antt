@@ -1,6 +1,6 @@
 -- Document 01's limits on a model.
 -- Assumes nothing.
-use Prim.Native.Nat.{ℕ}
+use Prim.Native.Nat.{ℕ, _-_}
 use lib.IntN.{ℤ, pos, negsuc}
 use Rattle.expressions.specs.Limits as Expressions
 
@@ -27,9 +27,9 @@ mostRecords = 1024
 abbrev pub mostBranches : ℕ
 mostBranches = 16
 
--- A variable's bounds: −30,000 to 30,000.
+-- A variable's bounds: −30,000 to 30,000. (expressions/specs/Limits.antt has the number.)
 abbrev pub leastBound : ℤ
-leastBound = negsuc 29999
+leastBound = negsuc (Expressions.farthestBound - 1)
 
 abbrev pub mostBound : ℤ
-mostBound = pos 30000
+mostBound = pos Expressions.farthestBound

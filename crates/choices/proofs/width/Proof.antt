@@ -1,4 +1,4 @@
-use Prim.Native.Nat.{_+_, _≤_}
+use Prim.Native.Nat.{_+_, _<_, _≤_}
 use mathlib.Core.Path.{_≡_, refl, ap, _∙_}
 use native.Mathlib.Omega.{arith}
 use lib.Dec.{T}
@@ -23,7 +23,7 @@ module _ (a b r : ℤ) (p : Apart a b) (e : r ≡ b -ℤ a) where
   cast-ok : T (nonNeg (toZ w64 (ofZ w64 r))) × Fits w64 (natAbs (toZ w64 (ofZ w64 r)))
   cast-ok = rw read (tt, record { fits = omega (arith, p .small) })
 
-  read-small : natAbs (toZ w64 (ofZ w64 r)) ≤ 65000
+  read-small : natAbs (toZ w64 (ofZ w64 r)) < fieldLimit
   read-small = rw read (p .small)
 
   is-width : (natAbs (toZ w64 (ofZ w64 r)) + 1 ≡ widthOf (span a b)) × (natAbs (toZ w64 (ofZ w64 r)) + 1 ≤ fieldLimit)
