@@ -218,7 +218,7 @@ static const struct {
     {18, 0, 0, graph, 0, {{NODE(0) + LABEL(0), 1}}},
     /* Variable 0 is untracked; a guard is of variable 1; a target that is none; an expanded node that is a target. */
     {19, 0, 0, graph, 0, {{NODE(0) + TRACKED, 0}}},
-    {19, 0, 1, model, 0, {{106, 1}}},
+    {19, 0, 1, model, 0, {{104, 8}, {106, 1}, {108, 5}}},
     {19, 1, LAGUIPY_NO_VARIABLE, graph, 0, {{NODE(1), 3}}},
     {19, 5, LAGUIPY_NO_VARIABLE, graph, 0, {{NODE(5), 1}}},
     {20, 0, 0, model, 0, {{112, 9}}},
@@ -322,14 +322,27 @@ static void run_painted(void (*call)(void)) {
 }
 
 /* The paint stays from the stack's low end to the farthest that was used. */
-static void test_stack(const char *name, void (*call)(void)) {
+static void test_stack(const char *name, void (*call)(void), size_t due) {
     size_t unused = 0;
     run_painted(call);
     while (unused < sizeof stack && stack[unused] == PAINT)
         unused++;
     printf("%s %zu\n", name, sizeof stack - unused);
-    expect(number == 0, name);
+    expect(number == due, name);
     expect(sizeof stack - unused <= LAGUIPY_STACK_BYTES, "the stack is enough");
+}
+
+static void test_stacks(size_t due) {
+    for (size_t k = 0; k < CALLS; k++)
+        test_stack(calls[k].name, calls[k].call, due <= calls[k].last ? due : 0);
+    test_stack("laguipy_record_part", call_part, 0);
+}
+
+/* The guard "d < 2" for "a < 2": d is untracked, so that its values are tried in node 0. */
+static void test_stacks_by_all_states(void) {
+    model[106] = 1;
+    test_stacks(20);
+    model[106] = 0;
 }
 
 static size_t read_file(const char *name, uint8_t *bytes, size_t most) {
@@ -344,9 +357,8 @@ int main(int words, char **word) {
         return 2;
     model_len = read_file(word[1], model, sizeof model);
     graph_len = read_file(word[2], graph, sizeof graph);
-    for (size_t k = 0; k < CALLS; k++)
-        test_stack(calls[k].name, calls[k].call);
-    test_stack("laguipy_record_part", call_part);
+    test_stacks(0);
+    test_stacks_by_all_states();
     test_folders();
     test_figures();
     test_steps();
