@@ -9,10 +9,10 @@ use mathlib.Core.List.{List, _++_}
 use lib.ListN.{getD, take, drop}
 use lib.IntN.{ℤ, pos}
 use Rattle.folder.specs.Contents.{body, countOf, signedField}
-use Rattle.folder.specs.Tab.{tab, fill}
+use Rattle.folder.specs.Tab.{tab}
 use Rattle.folder.proofs.Decides.{passes, everywhere, whenever}
 use Rattle.folder.proofs.TabLaws.{getD-tab}
-use Rattle.folder.proofs.FillLaws.{take-filled, getD-filled}
+use Rattle.folder.proofs.FillLaws.{take-filled}
 use Rattle.whole.proofs.Order.{equal-decided, to-⊑, ⊑-trans, within}
 use Rattle.expressions.specs.Entries.{entriesOf}
 use Rattle.expressions.specs.Meaning.{valueOf}
@@ -23,12 +23,12 @@ use Rattle.expressions.specs.declared.Number.{Number}
 use Rattle.expressions.specs.declared.Number.the-variants.{Known, Unknown as Open}
 use Rattle.expressions.proofs.Interval.{In, bound-here}
 use Rattle.evaluate.specs.Formed.{Formed, Ready, Grounded}
-use Rattle.evaluate.specs.Settled.{flagOf, entryReading, Settled}
+use Rattle.evaluate.specs.Settled.{flagOf, contentOf, entryReading, Settled}
 use Rattle.expressions.specs.Limits.{farthestBound}
 use Rattle.choices.specs.Ranged.{Ranged, labelIn}
-use Rattle.states.specs.Stated.{entryIn}
+use Rattle.states.specs.Stated.{entryIn, HasFlagged, StateRow}
 use Rattle.states.specs.Read.{readsKnown, Asked, Widened}
-use Rattle.states.proofs.Reading.{stays-known}
+use Rattle.states.proofs.Reading.{stays-known, three-is}
 use Rattle.model.specs.Layout.{variableCount}
 use Rattle.model.specs.Model.{Model, modelOf, bound}
 use Rattle.model.specs.Valid.{VariableRight}
@@ -39,7 +39,7 @@ use Rattle.graph.specs.Labels.{tracks, labelOf, concreteState}
 use Rattle.graph.specs.Rules.{A1}
 use Rattle.graph.proofs.Decided.{a1-decided}
 use Rattle.graph.proofs.Labelled.{tracked-there, concrete-in-range, proper, holds}
-use Rattle.expand.specs.Node.{NodeOf, LabelFlagged, LabelWidened, StateSettled, NodeRead, MasksOf}
+use Rattle.expand.specs.Node.{NodeOf, LabelFlagged, LabelWidened, FlaggedSettled, StateSettled, NodeRead, MasksOf}
 use Rattle.expand.specs.Tests.{knownAt}
 
 -- The same body, set and values by other names.
@@ -85,11 +85,12 @@ module _ {m g : List ℕ} {n : ℕ} (node : NodeOf m g n) where
     high = λ i. inside i .high;
   }
 
-  -- A row that is filled with what entries are in the state.
-  pub state-settled : (d : List ℤ) {x : List ℕ} {v row : List ℤ} → x ≡ body m 2 → v ≡ concreteState M G n → row ≡ fill (countOf 8 x) (entryIn (entriesOf x) v) d → StateSettled m g n row
-  state-settled d {row = row} p q e = record {
-    is = λ k l. ap (λ (r : List ℤ). getD r k (pos 0)) (rw (p, q) at e) ∙ getD-filled (pos 0) (M .entries .count) (entryIn (M .entries) (concreteState M G n)) d k l;
-  }
+  -- The rows of the state, by other names.
+  pub flagged-as : {x known : List ℕ} {v row : List ℤ} → x ≡ body m 2 → v ≡ concreteState M G n → FlaggedSettled m g n known row → HasFlagged (entriesOf x) v row known
+  flagged-as p q h = rw (p, q) h
+
+  pub stated-as : {x : List ℕ} {v row : List ℤ} → x ≡ body m 2 → v ≡ concreteState M G n → StateRow (entriesOf x) v row → StateSettled m g n row
+  stated-as p q h = rw (p, q) at h
 
   -- ---- the label: where A1 holds, its tracked values are the state's
   agrees : A1 M G n ≡ true → (i : ℕ) → tracks G n i ≡ true → valueOf (tab (M .variables) (G .label n)) i ≡ valueOf (concreteState M G n) i
@@ -155,6 +156,16 @@ module _ {m g : List ℕ} {n : ℕ} (node : NodeOf m g n) where
         known-so : (e : ℕ) → e < M .entries .count → (a : Number) → entryReading (M .entries) (lookIn (G .tracked n) (tab (M .variables) (G .label n))) e ≡ a → flagOf a ≡ 1 → readsKnown (M .entries) (labelOf M G n) e ≡ true
         known-so e l (Known z) q k = stays-known (M .entries) (labelOf M G n) e (M .variables) (formed .right e l) label-proper z q
         known-so e l Open q k = absurd (omega arith)
+
+    -- And is in the state what it reads.
+    pub label-stated : {known : List ℕ} {values : List ℤ} → Settled (M .entries) (lookIn (G .tracked n) (tab (M .variables) (G .label n))) (M .entries .count) known values → FlaggedSettled m g n known values
+    label-stated {known} {values} s = record {
+      is = λ e l u. go e l (entryReading (M .entries) (lookIn (G .tracked n) (tab (M .variables) (G .label n))) e) refl (sym (s .flags e l) ∙ u);
+    }
+      where
+        go : (e : ℕ) → e < M .entries .count → (a : Number) → entryReading (M .entries) (lookIn (G .tracked n) (tab (M .variables) (G .label n))) e ≡ a → flagOf a ≡ 1 → getD values e (pos 0) ≡ entryIn (M .entries) (concreteState M G n) e
+        go e l (Known z) q k = s .contents e l ∙ ap contentOf q ∙ sym (three-is (M .entries) (labelOf M G n) e (M .variables) (formed .right e l) label-proper (concreteState M G n) own-holds z q)
+        go e l Open q k = absurd (omega arith)
 
     module _ {known : List ℕ} {state : List ℤ} (read : NodeRead m g n known state) {masks : List ℕ} (masked : MasksOf m masks) {e : ℕ} (l : e < M .entries .count) (down : knownAt known e ≡ false) where
       asked-here : Asked (M .entries) (body m 1) (tab (M .variables) (G .label n)) masks state known e (G .tracked n)

@@ -6,7 +6,7 @@ use mathlib.Core.List.{List}
 use lib.ListN.{length, getD}
 use lib.IntN.{ℤ}
 use Rattle.mentions.specs.Masked.{Masked}
-use Rattle.states.specs.Stated.{StateRow}
+use Rattle.states.specs.Stated.{HasFlagged, StateRow}
 use Rattle.states.specs.Read.{Flagged, Widened}
 use Rattle.model.specs.Limits.{mostExpressions}
 use Rattle.model.specs.Model.{modelOf, firstRecord}
@@ -32,7 +32,11 @@ module _ (m g : List ℕ) (n : ℕ) where
   abbrev pub LabelWidened : ℕ → List ℕ → List ℕ → Type 0
   LabelWidened e before after = Widened (modelOf m .entries) (labelOf (modelOf m) (simulationOf (modelOf m) g) n) e before after
 
-  -- The row has what each entry is in the node's concrete state.
+  -- The row has what the flagged entries are in the node's concrete state.
+  abbrev pub FlaggedSettled : List ℕ → List ℤ → Type 0
+  FlaggedSettled known state = HasFlagged (modelOf m .entries) (concreteState (modelOf m) (simulationOf (modelOf m) g) n) state known
+
+  -- What each entry is there.
   abbrev pub StateSettled : List ℤ → Type 0
   StateSettled state = StateRow (modelOf m .entries) (concreteState (modelOf m) (simulationOf (modelOf m) g) n) state
 

@@ -28,7 +28,7 @@ ghost use Rattle.graph.specs.Labels.{truthOf, readingOf};
 ghost use Rattle.graph.specs.Rules.{A1, A2, sameEdges, B1, edgesFollow, B2};
 ghost use Rattle.graph.specs.Seconds.{openGuard, second19, second21};
 ghost use Rattle.graph.specs.Walks.{startsAt};
-ghost use Rattle.expand.specs.Node.{NodeOf, LabelFlagged, LabelWidened, StateSettled, NodeRead, GuardsSettled, FirstsOf, MasksOf, RowsLong};
+ghost use Rattle.expand.specs.Node.{NodeOf, LabelFlagged, LabelWidened, FlaggedSettled, StateSettled, NodeRead, GuardsSettled, FirstsOf, MasksOf, RowsLong};
 ghost use Rattle.expand.specs.Tests.{knownAt, holdsAt, readsAt, namesAt, Leads, AllLead, resultAt, labelAt, variableFollows, branchFollows, branchAt, apartBy};
 ghost use Rattle.expand.specs.Follow.{targetReads, edgesBy, badRecordBy, secondBy, flagsOf, openEntry};
 
@@ -68,12 +68,13 @@ fn node_field(m: &[u8], g: &[u8], n: usize, f: usize) -> usize
     )
 }
 
-// Flags what reads known three ways in the label of node n, where A1 holds. `values` is room for what it reads.
-pub fn settle_label(m: &[u8], g: &[u8], n: usize, known: &mut [u8], values: &mut [i64])
+// Flags what reads known three ways in the label of node n, where A1 holds: it is in the concrete state what it reads.
+pub fn settle_label(m: &[u8], g: &[u8], n: usize, known: &mut [u8], state: &mut [i64])
     requires { ⌜ NodeOf (now m) (now g) n ⌝ }
     requires { ⌜ A1 (modelOf (now m)) (simulationOf (modelOf (now m)) (now g)) n ≡ true ⌝ }
-    requires { ⌜ (mostExpressions ≤ length (now known)) × (mostExpressions ≤ length (now values)) ⌝ }
+    requires { ⌜ RowsLong (now known) (now state) ⌝ }
     ensures { λ _. ⌜ LabelFlagged (now (m .entry)) (now (g .entry)) n (now (known .exit)) ⌝ }
+    ensures { λ _. ⌜ FlaggedSettled (now (m .entry)) (now (g .entry)) n (now (known .exit)) (now (state .exit)) ⌝ }
 {
     let vars = graph::variable_count(m);
     let set = node_field(m, g, n, 5);
@@ -82,12 +83,13 @@ pub fn settle_label(m: &[u8], g: &[u8], n: usize, known: &mut [u8], values: &mut
     let first = 6 + vars;
     let mut row = [0i64; MOST_VARIABLES];
     load_row(nb, vars, n, first, &mut row);
-    evaluate::settle(x, set, &row[..vars], known, values);
+    evaluate::settle(x, set, &row[..vars], known, state);
 }
 
-// What entries are in its concrete state.
-pub fn settle_state(m: &[u8], g: &[u8], n: usize, state: &mut [i64])
+// And what the other entries are there.
+pub fn settle_state(m: &[u8], g: &[u8], n: usize, known: &[u8], state: &mut [i64])
     requires { ⌜ NodeOf (now m) (now g) n ⌝ }
+    requires { ⌜ FlaggedSettled (now m) (now g) n (now known) (now state) ⌝ }
     requires { ⌜ mostExpressions ≤ length (now state) ⌝ }
     ensures { λ _. ⌜ StateSettled (now (m .entry)) (now (g .entry)) n (now (state .exit)) ⌝ }
 {
@@ -96,7 +98,7 @@ pub fn settle_state(m: &[u8], g: &[u8], n: usize, state: &mut [i64])
     let nb = folder::body(g, 0);
     let mut row = [0i64; MOST_VARIABLES];
     load_row(nb, vars, n, 6, &mut row);
-    states::fill_state(x, &row[..vars], state);
+    states::fill_state(x, &row[..vars], known, state);
 }
 
 // Entry e is flagged.

@@ -83,7 +83,7 @@ fn settled_rules(m: &[u8], g: &[u8], n: usize, at: usize, firsts: &[usize], mask
     let mut known = [0u8; MOST_EXPRESSIONS];
     let mut state = [0i64; MOST_EXPRESSIONS];
     expand::settle_label(m, g, n, &mut known, &mut state);
-    expand::settle_state(m, g, n, &mut state);
+    expand::settle_state(m, g, n, &known, &mut state);
     asked_rules(m, g, n, at, firsts, masks, &state, &mut known)
 }
 

@@ -1,18 +1,17 @@
 -- What an entry is in a state, from a row that has what its parts are.
 -- Assumes nothing.
-use Prim.Native.Nat.{ℕ, _<_, _≤_}
+use Prim.Native.Nat.{ℕ, _+_, _<_, _≤_}
 use mathlib.Core.Path.{_≡_, refl, sym, ap, _∙_}
 use mathlib.Core.Bool.{Bool, true, false}
 use mathlib.Core.List.{List}
-use native.Mathlib.Decide.{decLt}
+use native.Mathlib.Decide.{ℕ-discrete, decLt}
 use native.Mathlib.Omega.{arith}
 use borrow.Author.Tests.{not-true, le-ltb}
-use lib.ListN.{getD, length}
+use lib.ListN.{getD, length, set, length-set}
+use lib.Seq.{getD-set-same, getD-set-other}
 use lib.IntN.{ℤ, pos}
 use lib.Signed.{mag}
 use Rattle.folder.specs.Pick.{pick}
-use Rattle.folder.specs.Tab.{fill}
-use Rattle.folder.proofs.FillLaws.{getD-filled}
 use Rattle.folder.proofs.Decides.{unless}
 use Rattle.whole.specs.Limits.{farthest}
 use Rattle.whole.specs.Order.{eqZ}
@@ -33,7 +32,7 @@ use Rattle.expressions.proofs.Related.{number-step, truth-step}
 use Rattle.expressions.proofs.Small.{small}
 use Rattle.evaluate.specs.Formed.{Grounded}
 use Rattle.evaluate.proofs.Readable.{narrow}
-use Rattle.states.specs.Stated.{truthNumber, entryIn, HasEntry, Parted}
+use Rattle.states.specs.Stated.{truthNumber, entryIn, HasEntry, HasFlagged, Parted, StateRow}
 
 -- A truth read back from its number.
 pub truth-back : (b : Bool) → eqZ (truthNumber b) (pos 1) ≡ b
@@ -115,6 +114,39 @@ module _ (x : Entries) (low : Lower x) (s : State) (row : List ℤ) (e : ℕ) (f
     truth = map-truth filled filled (truthForm x e) (low .truth e);
   }
 
-pub filled-below : (x : Entries) (s : State) → Grounded x s → (row₀ : List ℤ) {e : ℕ} {row : List ℤ} → row ≡ fill e (entryIn x s) row₀ → Parted x s row e
-filled-below x s g row₀ {e} {row} h =
-    parted-below x (lower x (g .variables) (g .formed .right)) s row e (λ p l. ap (λ (r : List ℤ). getD r p (pos 0)) h ∙ getD-filled (pos 0) e (entryIn x s) row₀ p l)
+-- A row that is right below e, and where an entry is flagged.
+module _ (x : Entries) (s : State) (known : List ℕ) (row : List ℤ) where
+  pub record StatedTo (size e : ℕ) : Type 0 where
+    pub long : length row ≡ size
+    pub is : (k : ℕ) → k < e → HasEntry x s row k
+    pub flagged : HasFlagged x s row known
+
+  pub stated-start : HasFlagged x s row known → StatedTo (length row) 0
+  stated-start f = record { long = refl; is = λ k l. absurd (omega arith); flagged = f }
+
+  module _ {size e : ℕ} (h : StatedTo size e) where
+    pub stated-parted : Grounded x s → Parted x s row e
+    stated-parted g = parted-below x (lower x (g .variables) (g .formed .right)) s row e (h .is)
+
+    pub stated-over : x .count ≤ e → StateRow x s row
+    stated-over l = record { is = λ k m. h .is k (omega arith) }
+
+-- An entry that is written as it is in the state leaves what is right in the row right.
+module _ (x : Entries) (s : State) (row : List ℤ) {e : ℕ} {z : ℤ} (right : z ≡ entryIn x s e) (there : e < length row) where
+  pub still-has : (k : ℕ) → HasEntry x s row k → HasEntry x s (set row e z) k
+  still-has k h = go (ℕ-discrete k e)
+    where
+      go : Dec (k ≡ e) → HasEntry x s (set row e z) k
+      go (yes q) = rw q (getD-set-same row e z (pos 0) there ∙ right)
+      go (no d) = getD-set-other row e k z (pos 0) d ∙ h
+
+  pub stated-next : {known : List ℕ} {size : ℕ} → StatedTo x s known row size e → StatedTo x s known (set row e z) size (e + 1)
+  stated-next h = record {
+    long = length-set row e z ∙ h .long;
+    is = λ k m. go k (decLt k e) m;
+    flagged = record { is = λ k l u. still-has k (h .flagged .is k l u) };
+  }
+    where
+      go : (k : ℕ) → Dec (k < e) → k < e + 1 → HasEntry x s (set row e z) k
+      go k (yes b) m = still-has k (h .is k b)
+      go k (no b) m = let p : k ≡ e = omega arith in rw p (getD-set-same row e z (pos 0) there ∙ right)

@@ -3,16 +3,17 @@
 use Prim.Native.Nat.{ℕ, _+_, _≤_, _<_, zero-le}
 use mathlib.Core.Path.{_≡_, refl, sym, ap, _∙_}
 use mathlib.Core.List.{List}
-use native.Mathlib.Decide.{ℕ-discrete, decLt}
+use native.Mathlib.Decide.{decLt}
 use native.Mathlib.Omega.{arith}
 use lib.ListN.{getD, length, set, length-set}
-use lib.Seq.{getD-set-same, getD-set-other}
+use lib.Seq.{getD-set-same}
 use lib.IntN.{ℤ, pos}
 use Rattle.expressions.specs.Entries.{Entries, numberForm, truthForm}
 use Rattle.expressions.specs.Meaning.{State}
 use Rattle.expressions.proofs.Parts.{map-number, map-truth}
 use Rattle.states.specs.Stated.{entryIn, HasEntry, Parted, HasAll}
 use Rattle.states.specs.Needed.{Before, Ordered}
+use Rattle.states.proofs.Entries.{still-has}
 
 module _ (x : Entries) (s : State) (row : List ℤ) (list : List ℕ) where
   -- The first i of the list stand in the row, which is so long.
@@ -38,20 +39,13 @@ module _ (x : Entries) (s : State) (row : List ℤ) (list : List ℕ) where
     pub listed-over : length list ≤ i → HasAll x s row list
     listed-over l = record { is = λ j k. h .is j (omega arith) }
 
--- An entry that is written as it is in the state leaves what is right in the row right.
+-- The next of them is written as it is in the state.
 module _ (x : Entries) (s : State) (row : List ℤ) {e : ℕ} {z : ℤ} (right : z ≡ entryIn x s e) (there : e < length row) where
-  pub still-has : (k : ℕ) → HasEntry x s row k → HasEntry x s (set row e z) k
-  still-has k h = go (ℕ-discrete k e)
-    where
-      go : Dec (k ≡ e) → HasEntry x s (set row e z) k
-      go (yes q) = rw q (getD-set-same row e z (pos 0) there ∙ right)
-      go (no d) = getD-set-other row e k z (pos 0) d ∙ h
-
   pub listed-next : (list : List ℕ) {size i : ℕ} → ListedTo x s row list size i → i < length list → e ≡ getD list i 0 → ListedTo x s (set row e z) list size (i + 1)
   listed-next list {i = i} h l q = record { long = length-set row e z ∙ h .long; within = omega arith; is = λ j k. go j (decLt j i) k }
     where
       go : (j : ℕ) → Dec (j < i) → j < i + 1 → HasEntry x s (set row e z) (getD list j 0)
-      go j (yes m) k = still-has (getD list j 0) (h .is j m)
+      go j (yes m) k = still-has x s row right there (getD list j 0) (h .is j m)
       go j (no m) k =
           let p : j ≡ i = omega arith in
           rw (p, ← q) (getD-set-same row e z (pos 0) there ∙ right)

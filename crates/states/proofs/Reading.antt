@@ -31,7 +31,7 @@ use Rattle.expressions.proofs.Decided.{number-decided, truth-decided}
 use Rattle.expressions.proofs.Forms.{no-number, no-truth}
 use Rattle.expressions.proofs.Sound.{Says, SaysT, known-is, true-is, false-is}
 use Rattle.expressions.proofs.States.{same-truth, says-number, says-truth, number-stays, truth-stays}
-use Rattle.evaluate.specs.Settled.{asNumber, entryReading}
+use Rattle.evaluate.specs.Settled.{asNumber, contentOf, entryReading}
 use Rattle.states.specs.Stated.{truthNumber, entryIn}
 use Rattle.states.specs.Read.{isKnownNumber, entryRead, readsKnown}
 use Rattle.states.proofs.Entries.{truth-back, entry-number, entry-truth}
@@ -86,6 +86,24 @@ module _ (x : Entries) (L : Label) (e : ℕ) where
         (λ i.
         let w = as-known (truthThree x L e) z (sym (three-truth i) ∙ h) in
         ap isKnownNumber (read-truth i ∙ ap asNumber (truth-stays x L P e (w .0) (w .1))) ∙ known-so (w .0))
+
+    -- It is that in every state of the label.
+    module _ (P : Proper L) (s : State) (h : Holds L s) where
+      truth-is : (b : Bool) → truthRead x L e ≡ knownTruth b → truthIn x s e ≡ b
+      truth-is true q = true-is (says-truth x L P e s h) q
+      truth-is false q = false-is (says-truth x L P e s h) q
+
+      as-content : (b : Bool) → truthNumber b ≡ contentOf (asNumber (knownTruth b))
+      as-content true = refl
+      as-content false = refl
+
+      pub three-is : (z : ℤ) → entryReading x (lookIn (L .tracked) (L .values)) e ≡ Known z → entryIn x s e ≡ z
+      three-is z q = by-sort
+          (λ i. entry-number x s e i ∙ known-is z (says-number x L P e s h) (number-stays x L P e z (sym (three-number i) ∙ q)))
+          (λ i.
+          let w = as-known (truthThree x L e) z (sym (three-truth i) ∙ q) in
+          entry-truth x s e i ∙ ap truthNumber (truth-is (w .0) (truth-stays x L P e (w .0) (w .1))) ∙ as-content (w .0)
+          ∙ ap contentOf (sym (ap asNumber (w .1)) ∙ sym (three-truth i) ∙ q))
 
     -- ---- too many combinations
     number-above : mostCombinations < ways x L e → numberRead x L e ≡ numberThree x L e

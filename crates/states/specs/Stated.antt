@@ -10,6 +10,7 @@ use Rattle.folder.specs.Pick.{pick}
 use Rattle.expressions.specs.Entries.{Entries, numberForm, truthForm, isNumber}
 use Rattle.expressions.specs.Meaning.{State, numberIn, truthIn}
 use Rattle.expressions.specs.Parts.{EachN, EachT}
+use Rattle.states.specs.Needed.{Up}
 
 abbrev pub truthNumber : Bool → ℤ
 truthNumber b = pick b (pos 1) (pos 0)
@@ -32,6 +33,10 @@ module _ (x : Entries) (s : State) where
     -- Of every entry.
     pub record StateRow : Type 0 where
       pub is : (e : ℕ) → e < x .count → HasEntry e
+
+    -- Of those that are flagged.
+    pub record HasFlagged (flags : List ℕ) : Type 0 where
+      pub is : (e : ℕ) → e < x .count → Up flags e → HasEntry e
 
     -- Of the entries of a list.
     pub record HasAll (list : List ℕ) : Type 0 where

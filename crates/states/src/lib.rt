@@ -19,7 +19,7 @@ ghost use Rattle.expressions.specs.Mentions.{union, mentions};
 ghost use Rattle.expressions.specs.Ranges.{boundIn};
 ghost use Rattle.expressions.specs.Combinations.{combinations};
 ghost use Rattle.evaluate.specs.Formed.{Grounded};
-ghost use Rattle.states.specs.Stated.{truthNumber, entryIn, Parted, HasAll};
+ghost use Rattle.states.specs.Stated.{truthNumber, entryIn, Parted, HasFlagged, HasAll, StateRow};
 ghost use Rattle.choices.specs.Ranged.{labelIn};
 ghost use Rattle.states.specs.Read.{Readable, AllAgree, OneDiffers, Asked, Widened};
 ghost use Rattle.states.specs.Needed.{isUp, Up, flagIf, inGroup, PartsUp, ClosedFrom, Before, Ordered, Chosen, Raised, keptIf, Compared, eitherUp};
@@ -102,17 +102,31 @@ fn entry_of(x: &[u8], s: &[i64], row: &[i64], e: usize) -> i64
     if truth_of(x, s, row, e) { 1 } else { 0 }
 }
 
-// Fills a row with what all entries are, upward.
-pub fn fill_state(x: &[u8], s: &[i64], row: &mut [i64])
+// What entry e is: where it is flagged it stands in the row, else it is worked out.
+fn entry_kept(x: &[u8], s: &[i64], known: &[u8], row: &[i64], e: usize) -> i64
     requires { ⌜ Grounded (entriesOf (now x)) (now s) ⌝ }
-    requires { ⌜ countOf 8 (now x) ≤ fieldLimit ⌝ }
-    requires { ⌜ countOf 8 (now x) ≤ length (now row) ⌝ }
-    ensures { λ _. ⌜ now (row .exit) ≡ fill (countOf 8 (now (x .entry))) (entryIn (entriesOf (now (x .entry))) (now (s .entry))) (now (row .entry)) ⌝ }
+    requires { ⌜ HasFlagged (entriesOf (now x)) (now s) (now row) (now known) ⌝ }
+    requires { ⌜ Parted (entriesOf (now x)) (now s) (now row) e ⌝ }
+    requires { ⌜ (e < countOf 8 (now x)) × (countOf 8 (now x) ≤ fieldLimit) ⌝ }
+    ensures { λ r. ⌜ r ≡ entryIn (entriesOf (now (x .entry))) (now (s .entry)) e ⌝ }
+{
+    if folder::byte_at(known, e) == 1 {
+        return evaluate::value_at(row, e);
+    }
+    entry_of(x, s, row, e)
+}
+
+// Fills a row with what all entries are, upward. What flagged ones are stands there already.
+pub fn fill_state(x: &[u8], s: &[i64], known: &[u8], row: &mut [i64])
+    requires { ⌜ Grounded (entriesOf (now x)) (now s) ⌝ }
+    requires { ⌜ HasFlagged (entriesOf (now x)) (now s) (now row) (now known) ⌝ }
+    requires { ⌜ (countOf 8 (now x) ≤ fieldLimit) × (countOf 8 (now x) ≤ length (now row)) ⌝ }
+    ensures { λ _. ⌜ StateRow (entriesOf (now (x .entry))) (now (s .entry)) (now (row .exit)) ⌝ }
 {
     let n = folder::count_of(8, x);
     let mut e = 0;
     while e < n {
-        row[e] = entry_of(x, s, row, e);
+        row[e] = entry_kept(x, s, known, row, e);
         e += 1;
     }
 }

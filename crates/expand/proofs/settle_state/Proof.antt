@@ -5,7 +5,7 @@ use Rattle.folder.specs.Contents.{countOf}
 use Rattle.folder.proofs.TabLaws.{length-tab}
 use Rattle.folder.proofs.FillLaws.{take-filled}
 use Rattle.model.proofs.Limits.{limits}
-use Rattle.expand.proofs.Ready.{grounded-as, state-loaded, state-grounded, state-settled}
+use Rattle.expand.proofs.Ready.{grounded-as, state-loaded, state-grounded, flagged-as, stated-as}
 use borrow.Author.Needs.{needs}
 use Rattle.expand.proofs.settle_state.Statement.{statement}
 use Rattle.expand.proofs.settle_state.Tie as tie
@@ -16,11 +16,12 @@ slice-aggregate-fill-state c = sym (ap length (take-filled _ _ _ (c .before .bef
 fill-state-requires : tie.Need-fill-state-requires
 fill-state-requires c κs =
     let e = ap (countOf 8) (c .before .before .before .before .before .before .body .ensures) in
-    let k = limits (c .before .before .before .before .before .before .before .before .before .before .pre .0 .model .folder) .expressions in
-    (grounded-as (c .before .before .before .before .before .before .body .ensures) (state-loaded (c .before .before .before .before .before .before .before .before .before .before .pre .0) _ (c .before .before .before .before .before .before .before .variable-count .ensures .0) (c .before .before .before .before .before .body2 .ensures) (c .before .before .before .load-row .ensures)) (state-grounded (c .before .before .before .before .before .before .before .before .before .before .pre .0)), (omega arith, omega arith))
+    let k = limits (c .before .before .before .before .before .before .before .before .before .before .before .pre .0 .model .folder) .expressions in
+    let l = state-loaded (c .before .before .before .before .before .before .before .before .before .before .before .pre .0) _ (c .before .before .before .before .before .before .before .variable-count .ensures .0) (c .before .before .before .before .before .body2 .ensures) (c .before .before .before .load-row .ensures) in
+    (grounded-as (c .before .before .before .before .before .before .body .ensures) l (state-grounded (c .before .before .before .before .before .before .before .before .before .before .before .pre .0)), (flagged-as (c .before .before .before .before .before .before .before .before .before .before .before .pre .0) (c .before .before .before .before .before .before .body .ensures) l (c .before .before .before .before .before .before .before .before .before .before .before .pre .1 .0), (omega arith, omega arith)))
 
 returns : tie.Need-returns
-returns c = state-settled (c .before .before .before .before .before .before .before .before .before .before .before .before .pre .0) _ (c .before .before .before .before .before .before .before .before .body .ensures) (state-loaded (c .before .before .before .before .before .before .before .before .before .before .before .before .pre .0) _ (c .before .before .before .before .before .before .before .before .before .variable-count .ensures .0) (c .before .before .before .before .before .before .before .body2 .ensures) (c .before .before .before .before .before .load-row .ensures)) (c .before .fill-state .ensures)
+returns c = stated-as (c .before .before .before .before .before .before .before .before .before .before .before .before .before .pre .0) (c .before .before .before .before .before .before .before .before .body .ensures) (state-loaded (c .before .before .before .before .before .before .before .before .before .before .before .before .before .pre .0) _ (c .before .before .before .before .before .before .before .before .before .variable-count .ensures .0) (c .before .before .before .before .before .before .before .body2 .ensures) (c .before .before .before .before .before .load-row .ensures)) (c .before .fill-state .ensures)
 
 pub settle-state-spec : {M : Type 1} → statement M
 settle-state-spec = tie.close (tie.spec (λ c κs. search needs) (λ c κs. search needs) (λ c κs. search needs) (λ c. search needs) (λ c κs. search needs) (λ c. search needs) slice-aggregate-fill-state fill-state-requires (λ c. search needs) returns)

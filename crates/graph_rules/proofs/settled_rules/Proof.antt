@@ -4,9 +4,12 @@ use borrow.Author.Needs.{needs}
 use Rattle.graph_rules.proofs.settled_rules.Statement.{statement}
 use Rattle.graph_rules.proofs.settled_rules.Tie as tie
 
+settle-state-requires : tie.Need-settle-state-requires
+settle-state-requires c κs = (c .before .before .before .before .before .before .before .before .before .before .before .pre .0, (c .before .before .before .before .settle-label .ensures .1, omega (arith, c .before .before .state2 .given)))
+
 asked-rules-requires : tie.Need-asked-rules-requires
 asked-rules-requires c κs =
-    let s = c .before .before .before .before .before .before .before .before .before .before .before .before .before .before .pre in (
+    let s = c .before .before .before .before .before .before .before .before .before .before .before .before .before .before .before .pre in (
       s .0,
       (
         s .1 .0,
@@ -16,7 +19,7 @@ asked-rules-requires c κs =
             s .1 .1 .1 .0,
             (
               s .1 .1 .1 .1,
-              record { flagged = c .before .before .before .before .before .before .before .settle-label .ensures; stated = c .before .before .before .settle-state .ensures; known-long = omega (arith, c .before .before .before .before .before .before .known2 .given); state-long = omega (arith, c .before .before .state4 .given) },
+              record { flagged = c .before .before .before .before .before .before .before .before .settle-label .ensures .0; stated = c .before .before .before .settle-state .ensures; known-long = omega (arith, c .before .before .before .before .before .before .before .known2 .given); state-long = omega (arith, c .before .before .state4 .given) },
             ),
           ),
         ),
@@ -31,7 +34,8 @@ settled-rules-spec =
     (λ c. search needs)
     (λ c κs. search needs)
     (λ c. search needs)
-    (λ c κs. search needs)
+    (λ c. search needs)
+    settle-state-requires
     (λ c. search needs)
     (λ c. search needs)
     asked-rules-requires
