@@ -34,7 +34,7 @@ use Rattle.graph.specs.Labels.{tracks, labelOf, numberOf}
 use Rattle.graph.specs.Rules.{A1, resultIs, labelFollows, follows, edgeFollows, edgesFollow}
 use Rattle.graph.specs.Seconds.{secondOf, second21}
 use Rattle.expand.specs.Node.{NodeOf, NodeRead, LabelWidened}
-use Rattle.expand.specs.Tests.{knownAt, readsAt}
+use Rattle.expand.specs.Tests.{readsAt}
 use Rattle.expand.specs.Follow.{labelFlagged, followsBy, successorBy, edgeBy, edgesBy, badEdgeBy, badBranchBy, badRecordBy, badSuccessorBy, apartIn, secondBy, openEntry}
 use Rattle.expand.proofs.Readings.{number-known, known-number}
 
@@ -163,8 +163,7 @@ module _ {m g : List ℕ} {n : ℕ} (node : NodeOf m g n) where
     assigned-number : (r v : ℕ) → r < M .records → v < M .variables → IsNumber (M .entries) (M .assigned r v)
     assigned-number r v l k = node .model .model .branches r l .number v k
 
-    up-known : (a : ℕ) → IsNumber (M .entries) a → knownAt known a ≡ true → numberOf M G n a ≡ Known (getD state a (pos 0))
-    unfolding knownAt
+    up-known : (a : ℕ) → IsNumber (M .entries) a → isUp known a ≡ true → numberOf M G n a ≡ Known (getD state a (pos 0))
     up-known a i k = known-number node h (read .stated) i (read .flagged .sound a (i .there) (eqb-true (getD known a 0) 1 k))
 
     flags-weaker : (r s v : ℕ) → r < M .records → v < M .variables → labelFlagged M G known state r s v ≡ true → labelFollows M G n r s v ≡ true
@@ -174,25 +173,25 @@ module _ {m g : List ℕ} {n : ℕ} (node : NodeOf m g n) where
         a : ℕ
         a = M .assigned r v
 
-        go : (t : Bool) → implies t (knownAt known (M .assigned r v) && eqZ (getD state (M .assigned r v) (pos 0)) (G .label s v)) ≡ true → implies t (reads (numberOf M G n (M .assigned r v)) (G .label s v)) ≡ true
+        go : (t : Bool) → implies t (isUp known (M .assigned r v) && eqZ (getD state (M .assigned r v) (pos 0)) (G .label s v)) ≡ true → implies t (reads (numberOf M G n (M .assigned r v)) (G .label s v)) ≡ true
         go true p =
-            let b = and-both (knownAt known (M .assigned r v)) (eqZ (getD state (M .assigned r v) (pos 0)) (G .label s v)) p in
+            let b = and-both (isUp known (M .assigned r v)) (eqZ (getD state (M .assigned r v) (pos 0)) (G .label s v)) p in
             ap (λ (z : Number). reads z (G .label s v)) (up-known (M .assigned r v) (assigned-number r v l k) (b .0)) ∙ b .1
         go false p = refl
 
     -- What breaks by the flags breaks, where the entry is flagged, or reads unknown.
     flags-decide : (r s v : ℕ) → r < M .records → v < M .variables → labelFlagged M G known state r s v ≡ false
-        → (knownAt known (M .assigned r v) ≡ false → readsKnown (M .entries) (labelOf M G n) (M .assigned r v) ≡ false) → labelFollows M G n r s v ≡ false
+        → (isUp known (M .assigned r v) ≡ false → readsKnown (M .entries) (labelOf M G n) (M .assigned r v) ≡ false) → labelFollows M G n r s v ≡ false
     unfolding labelFlagged labelFollows readsAt
     flags-decide r s v l k q d =
-        let p = implies-fails (tracks G s v) (knownAt known (M .assigned r v) && eqZ (getD state (M .assigned r v) (pos 0)) (G .label s v)) q in
-        rw (p .0) (go (knownAt known (M .assigned r v)) refl (p .1))
+        let p = implies-fails (tracks G s v) (isUp known (M .assigned r v) && eqZ (getD state (M .assigned r v) (pos 0)) (G .label s v)) q in
+        rw (p .0) (go (isUp known (M .assigned r v)) refl (p .1))
       where
         open-so : (a : Number) → isKnownNumber a ≡ false → (z : ℤ) → reads a z ≡ false
         open-so (Known y) b z = absurd (false≢true (sym b))
         open-so Open b z = refl
 
-        go : (t : Bool) → knownAt known (M .assigned r v) ≡ t → (t && eqZ (getD state (M .assigned r v) (pos 0)) (G .label s v)) ≡ false → reads (numberOf M G n (M .assigned r v)) (G .label s v) ≡ false
+        go : (t : Bool) → isUp known (M .assigned r v) ≡ t → (t && eqZ (getD state (M .assigned r v) (pos 0)) (G .label s v)) ≡ false → reads (numberOf M G n (M .assigned r v)) (G .label s v) ≡ false
         go true u f = ap (λ (z : Number). reads z (G .label s v)) (up-known (M .assigned r v) (assigned-number r v l k) u) ∙ f
         go false u f = open-so (numberOf M G n (M .assigned r v)) (sym (number-known node (assigned-number r v l k)) ∙ d u) (G .label s v)
 
@@ -210,7 +209,7 @@ module _ {m g : List ℕ} {n : ℕ} (node : NodeOf m g n) where
       asked : {r v e : ℕ} → r ≡ badRecordBy M G n flags → v ≡ secondBy M G n flags → e ≡ openEntry M known r v → e ≡ openEntry M known (badRecordBy M G n flags) (secondBy M G n flags)
       asked p o i = i ∙ ap₂ (openEntry M known) p o
 
-      module _ (unknown : secondBy M G n flags < M .variables → knownAt known (M .assigned (badRecordBy M G n flags) (secondBy M G n flags)) ≡ false
+      module _ (unknown : secondBy M G n flags < M .variables → isUp known (M .assigned (badRecordBy M G n flags) (secondBy M G n flags)) ≡ false
           → readsKnown (M .entries) (labelOf M G n) (M .assigned (badRecordBy M G n flags) (secondBy M G n flags)) ≡ false) where
         decided : secondBy M G n flags < M .variables → labelFollows M G n (badRecordBy M G n flags) (badSuccessorBy M G n flags) (secondBy M G n flags) ≡ false
         decided l = flags-decide _ _ _ (record-here flags (labelFollows M G n) flags-weaker broken) l (weak-fails flags (labelFollows M G n) flags-weaker broken l) (unknown l)
@@ -222,10 +221,9 @@ module _ {m g : List ℕ} {n : ℕ} (node : NodeOf m g n) where
         second-is o = o ∙ seconds-same flags (labelFollows M G n) flags-weaker broken decided ∙ second-rule
 
       -- It was asked, and reads unknown.
-      pub stays-unknown : {e : ℕ} → e ≡ M .assigned (badRecordBy M G n flags) (secondBy M G n flags) → {after : List ℕ} → LabelWidened m g n e known after → {a : Bool} → a ≡ knownAt after e → a ≡ false
-          → secondBy M G n flags < M .variables → knownAt known (M .assigned (badRecordBy M G n flags) (secondBy M G n flags)) ≡ false
+      pub stays-unknown : {e : ℕ} → e ≡ M .assigned (badRecordBy M G n flags) (secondBy M G n flags) → {after : List ℕ} → LabelWidened m g n e known after → {a : Bool} → a ≡ isUp after e → a ≡ false
+          → secondBy M G n flags < M .variables → isUp known (M .assigned (badRecordBy M G n flags) (secondBy M G n flags)) ≡ false
           → readsKnown (M .entries) (labelOf M G n) (M .assigned (badRecordBy M G n flags) (secondBy M G n flags)) ≡ false
-      unfolding knownAt
       stays-unknown p w i f l d = ap (readsKnown (M .entries) (labelOf M G n)) (sym p) ∙ sym (w .decided) ∙ sym i ∙ f
 
       pub record-small : {r : ℕ} → r ≡ badRecordBy M G n flags → r ≤ fieldLimit
@@ -240,26 +238,26 @@ module _ {m g : List ℕ} {n : ℕ} (node : NodeOf m g n) where
         entry = M .assigned (badRecordBy M G n flags) (secondBy M G n flags)
 
         abbrev isOpen : Bool
-        isOpen = ltb (secondBy M G n flags) (M .variables) && not (knownAt known entry)
+        isOpen = ltb (secondBy M G n flags) (M .variables) && not (isUp known entry)
 
         entry-here : secondBy M G n flags < M .variables → entry < M .entries .count
         entry-here l = assigned-number _ _ (record-here flags (labelFollows M G n) flags-weaker broken) l .there
 
         -- No entry is to be asked: the one that breaks it is flagged.
-        pub none-open : e ≡ mostExpressions → secondBy M G n flags < M .variables → knownAt known entry ≡ false → readsKnown (M .entries) (labelOf M G n) entry ≡ false
+        pub none-open : e ≡ mostExpressions → secondBy M G n flags < M .variables → isUp known entry ≡ false → readsKnown (M .entries) (labelOf M G n) entry ≡ false
         unfolding openEntry
         none-open q l d =
             let w = open-by isOpen entry (omega (arith, entry-here l, limits (node .model .folder) .expressions)) .0 (sym (asked p o i) ∙ q) in
             absurd (false≢true (sym w ∙ rw (lt-ltb (secondBy M G n flags) (M .variables) l, d) refl))
 
-        pub one-open : (e ≡ mostExpressions → ⊥) → (e < M .entries .count) × (knownAt known e ≡ false) × (e ≡ entry)
+        pub one-open : (e ≡ mostExpressions → ⊥) → (e < M .entries .count) × (isUp known e ≡ false) × (e ≡ entry)
         unfolding openEntry
         one-open d = go isOpen refl (asked p o i)
           where
-            go : (c : Bool) → isOpen ≡ c → e ≡ pick c entry mostExpressions → (e < M .entries .count) × (knownAt known e ≡ false) × (e ≡ entry)
+            go : (c : Bool) → isOpen ≡ c → e ≡ pick c entry mostExpressions → (e < M .entries .count) × (isUp known e ≡ false) × (e ≡ entry)
             go true c q =
-                let w = and-both (ltb (secondBy M G n flags) (M .variables)) (not (knownAt known entry)) c in
-                (rw q (entry-here (ltb-true _ _ (w .0))), ap (knownAt known) q ∙ not-true (knownAt known entry) (w .1), q)
+                let w = and-both (ltb (secondBy M G n flags) (M .variables)) (not (isUp known entry)) c in
+                (rw q (entry-here (ltb-true _ _ (w .0))), ap (isUp known) q ∙ not-true (isUp known entry) (w .1), q)
             go false c q = absurd (d q)
 
 -- ---- how many entries are not flagged
@@ -288,7 +286,6 @@ module _ (before after : List ℕ) (more : (k : ℕ) → Up before k → Up afte
       go (inr k) f = omega (arith, f k, one n)
 
 -- One fewer after an entry was asked that reads known.
-pub fewer-after : {m g : List ℕ} {n : ℕ} → NodeOf m g n → {e : ℕ} → e < modelOf m .entries .count → {before after : List ℕ} → knownAt before e ≡ false → LabelWidened m g n e before after
-    → {a : Bool} → a ≡ knownAt after e → a ≡ true → openFlags mostExpressions after < openFlags mostExpressions before
-unfolding knownAt
+pub fewer-after : {m g : List ℕ} {n : ℕ} → NodeOf m g n → {e : ℕ} → e < modelOf m .entries .count → {before after : List ℕ} → isUp before e ≡ false → LabelWidened m g n e before after
+    → {a : Bool} → a ≡ isUp after e → a ≡ true → openFlags mostExpressions after < openFlags mostExpressions before
 fewer-after node l {before} {after} d w i k = fewer-open before after (w .more) mostExpressions _ (omega (arith, limits (node .model .folder) .expressions)) d (sym i ∙ k)

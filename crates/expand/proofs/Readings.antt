@@ -39,7 +39,7 @@ use Rattle.graph.specs.Rules.{A1, A2, enabledIn, isExpanded}
 use Rattle.graph.specs.Seconds.{openGuard, second19}
 use Rattle.graph.proofs.Decided.{a2-decided}
 use Rattle.expand.specs.Node.{NodeOf, LabelFlagged, StateSettled, NodeRead, GuardsSettled, MasksOf}
-use Rattle.expand.specs.Tests.{knownAt, holdsAt, readsAt}
+use Rattle.expand.specs.Tests.{holdsAt, readsAt}
 use Rattle.expand.specs.Follow.{targetReads}
 use Rattle.expand.proofs.Ready.{label-proper, own-holds}
 

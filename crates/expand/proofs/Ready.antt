@@ -29,6 +29,7 @@ use Rattle.choices.specs.Ranged.{Ranged, labelIn}
 use Rattle.states.specs.Stated.{entryIn, HasFlagged, StateRow}
 use Rattle.states.specs.Read.{readsKnown, Asked, Widened}
 use Rattle.states.proofs.Reading.{stays-known, three-is}
+use Rattle.states.specs.Needed.{isUp}
 use Rattle.model.specs.Layout.{variableCount}
 use Rattle.model.specs.Model.{Model, modelOf, bound}
 use Rattle.model.specs.Valid.{VariableRight}
@@ -40,7 +41,6 @@ use Rattle.graph.specs.Rules.{A1}
 use Rattle.graph.proofs.Decided.{a1-decided}
 use Rattle.graph.proofs.Labelled.{tracked-there, concrete-in-range, proper, holds}
 use Rattle.expand.specs.Node.{NodeOf, LabelFlagged, LabelWidened, FlaggedSettled, StateSettled, NodeRead, MasksOf}
-use Rattle.expand.specs.Tests.{knownAt}
 
 -- The same body, set and values by other names.
 pub settled-as : {x y : List ℕ} {t u : ℕ} {v w : List ℤ} {known : List ℕ} {values : List ℤ} → x ≡ y → t ≡ u → v ≡ w
@@ -167,9 +167,8 @@ module _ {m g : List ℕ} {n : ℕ} (node : NodeOf m g n) where
         go e l (Known z) q k = s .contents e l ∙ ap contentOf q ∙ sym (three-is (M .entries) (labelOf M G n) e (M .variables) (formed .right e l) label-proper (concreteState M G n) own-holds z q)
         go e l Open q k = absurd (omega arith)
 
-    module _ {known : List ℕ} {state : List ℤ} (read : NodeRead m g n known state) {masks : List ℕ} (masked : MasksOf m masks) {e : ℕ} (l : e < M .entries .count) (down : knownAt known e ≡ false) where
+    module _ {known : List ℕ} {state : List ℤ} (read : NodeRead m g n known state) {masks : List ℕ} (masked : MasksOf m masks) {e : ℕ} (l : e < M .entries .count) (down : isUp known e ≡ false) where
       asked-here : Asked (M .entries) (body m 1) (tab (M .variables) (G .label n)) masks state known e (G .tracked n)
-      unfolding knownAt
       asked-here = record {
         readable = record { formed = rw (← bound-is) formed; ranged = ranged; proper = rw (← label-is) label-proper };
         masked = masked;
@@ -190,6 +189,5 @@ module _ {m g : List ℕ} {n : ℕ} (node : NodeOf m g n) where
 
 -- An entry that is flagged already.
 module _ {m g : List ℕ} {n : ℕ} {known : List ℕ} {state : List ℤ} (read : NodeRead m g n known state) {e : ℕ} (l : e < modelOf m .entries .count) where
-  pub widened-up : knownAt known e ≡ true → LabelWidened m g n e known known
-  unfolding knownAt
+  pub widened-up : isUp known e ≡ true → LabelWidened m g n e known known
   widened-up k = record { flagged = read .flagged; more = λ i u. u; decided = k ∙ sym (read .flagged .sound e l (eqb-true (getD known e 0) 1 k)) }

@@ -10,11 +10,12 @@ use Rattle.folder.specs.Pick.{pick, implies}
 use Rattle.folder.specs.Scan.{firstBad, all}
 use Rattle.expressions.specs.Limits.{noVariable, mostExpressions}
 use Rattle.expressions.specs.Reading.{isTrue, isFalse}
+use Rattle.states.specs.Needed.{isUp}
 use Rattle.model.specs.Model.{Model, modelOf, firstRecord}
 use Rattle.graph.specs.Simulation.{Simulation, simulationOf}
 use Rattle.graph.specs.Labels.{tracks, truthOf}
 use Rattle.graph.specs.Rules.{resultIs}
-use Rattle.expand.specs.Tests.{knownAt, readsAt}
+use Rattle.expand.specs.Tests.{readsAt}
 
 -- The target of node n reads true, or false, as it is due.
 abbrev pub targetReads : Model → Simulation → ℕ → Bool → Bool
@@ -64,4 +65,4 @@ flagsOf m g known state = labelFlagged (modelOf m) (simulationOf (modelOf m) g) 
 
 -- The entry to ask next, if branch record r does not follow because of variable v; past all entries where there is none.
 unfoldable pub openEntry : Model → List ℕ → ℕ → ℕ → ℕ
-openEntry M known r v = pick (ltb v (M .variables) && not (knownAt known (M .assigned r v))) (M .assigned r v) mostExpressions
+openEntry M known r v = pick (ltb v (M .variables) && not (isUp known (M .assigned r v))) (M .assigned r v) mostExpressions

@@ -2,6 +2,7 @@
 -- Assumes nothing.
 use Prim.Native.Nat.{ℕ, _<_, _≤_}
 use mathlib.Core.Path.{_≡_}
+use mathlib.Core.Bool.{true}
 use mathlib.Core.List.{List}
 use lib.ListN.{length, getD}
 use lib.IntN.{ℤ}
@@ -13,9 +14,13 @@ use Rattle.model.specs.Model.{modelOf, firstRecord}
 use Rattle.model.specs.Valid.{Valid}
 use Rattle.graph.specs.Simulation.{nodeCount, simulationOf}
 use Rattle.graph.specs.Labels.{labelOf, concreteState}
-use Rattle.graph.specs.Rules.{enabledIn}
+use Rattle.graph.specs.Rules.{A1, enabledIn}
 use Rattle.graph.specs.Valid.{RowsRight}
 use Rattle.expand.specs.Tests.{holdsAt}
+
+-- The row has what each entry mentions.
+abbrev pub MasksOf : List ℕ → List ℕ → Type 0
+MasksOf m masks = Masked (modelOf m .entries) (modelOf m .entries .count) masks
 
 module _ (m g : List ℕ) (n : ℕ) where
   -- The model folder m is accepted, rows 12 to 17 hold of the graph folder g, and n is one of its nodes.
@@ -47,6 +52,13 @@ module _ (m g : List ℕ) (n : ℕ) where
     pub known-long : mostExpressions ≤ length known
     pub state-long : mostExpressions ≤ length state
 
+  -- Entries can be asked in the node's label: it is right of the concrete state, and the rows are filled.
+  pub record Askable (masks known : List ℕ) (state : List ℤ) : Type 0 where
+    pub node : NodeOf
+    pub kept : A1 (modelOf m) (simulationOf (modelOf m) g) n ≡ true
+    pub masked : MasksOf m masks
+    pub read : NodeRead known state
+
   -- Each guard reads true exactly where it holds in the state.
   pub record GuardsSettled (state : List ℤ) : Type 0 where
     pub is : (c : ℕ) → c < modelOf m .commands → holdsAt state (modelOf m .guard c) ≡ enabledIn (modelOf m) (simulationOf (modelOf m) g) n c
@@ -54,10 +66,6 @@ module _ (m g : List ℕ) (n : ℕ) where
 -- The rows have a place for each expression that a model may have.
 abbrev pub RowsLong : List ℕ → List ℤ → Type 0
 RowsLong known state = (mostExpressions ≤ length known) × (mostExpressions ≤ length state)
-
--- The row has what each entry mentions.
-abbrev pub MasksOf : List ℕ → List ℕ → Type 0
-MasksOf m masks = Masked (modelOf m .entries) (modelOf m .entries .count) masks
 
 -- The row has each command's first branch record.
 pub record FirstsOf (m : List ℕ) (firsts : List ℕ) : Type 0 where

@@ -12,19 +12,17 @@ use Rattle.folder.specs.Fields.{u16, i16}
 use Rattle.whole.specs.Order.{eqZ}
 use Rattle.expressions.specs.Limits.{noVariable}
 use Rattle.expressions.specs.Reading.{hasBit}
+use Rattle.states.specs.Needed.{isUp}
 use Rattle.model.specs.Limits.{mostExpressions}
 use Rattle.model.specs.Layout.{branchSize}
 use Rattle.graph.specs.Simulation.{nodeSize, commandIn, successorIn}
 
--- Entry e is flagged; it holds in the state; it is flagged, and is z there.
-unfoldable pub knownAt : List ℕ → ℕ → Bool
-knownAt known e = eqb (getD known e 0) 1
-
+-- Entry e holds in the state; it is flagged, and is z there.
 unfoldable pub holdsAt : List ℤ → ℕ → Bool
 holdsAt state e = eqZ (getD state e (pos 0)) (pos 1)
 
 unfoldable pub readsAt : List ℕ → List ℤ → ℕ → ℤ → Bool
-readsAt known state e z = knownAt known e && eqZ (getD state e (pos 0)) z
+readsAt known state e z = isUp known e && eqZ (getD state e (pos 0)) z
 
 -- Edge k of a node that has `edges` of them, which stands at p, is there and names the command c.
 abbrev pub namesAt : List ℕ → ℕ → ℕ → ℕ → ℕ → Bool

@@ -19,6 +19,7 @@ ghost use Rattle.folder.specs.Tab.{fill};
 ghost use Rattle.expressions.specs.Mentions.{lacked};
 ghost use Rattle.expressions.specs.Reading.{isKnown};
 ghost use Rattle.expressions.specs.Right.{IsTruth};
+ghost use Rattle.states.specs.Needed.{isUp};
 ghost use Rattle.model.specs.Limits.{mostVariables, mostExpressions, mostCommands};
 ghost use Rattle.model.specs.Layout.{branchSize};
 ghost use Rattle.model.specs.Model.{modelOf};
@@ -28,8 +29,8 @@ ghost use Rattle.graph.specs.Labels.{truthOf, readingOf};
 ghost use Rattle.graph.specs.Rules.{A1, A2, sameEdges, B1, edgesFollow, B2};
 ghost use Rattle.graph.specs.Seconds.{openGuard, second19, second21};
 ghost use Rattle.graph.specs.Walks.{startsAt};
-ghost use Rattle.expand.specs.Node.{NodeOf, LabelFlagged, LabelWidened, FlaggedSettled, StateSettled, NodeRead, GuardsSettled, FirstsOf, MasksOf, RowsLong};
-ghost use Rattle.expand.specs.Tests.{knownAt, holdsAt, readsAt, namesAt, Leads, AllLead, resultAt, labelAt, variableFollows, branchFollows, branchAt, apartBy};
+ghost use Rattle.expand.specs.Node.{NodeOf, LabelFlagged, LabelWidened, FlaggedSettled, StateSettled, Askable, GuardsSettled, FirstsOf, MasksOf, RowsLong};
+ghost use Rattle.expand.specs.Tests.{holdsAt, readsAt, namesAt, Leads, AllLead, resultAt, labelAt, variableFollows, branchFollows, branchAt, apartBy};
 ghost use Rattle.expand.specs.Follow.{targetReads, edgesBy, badRecordBy, secondBy, flagsOf, openEntry};
 
 // Fills the front of a row with the values of node n whose first is field f: 6 for the concrete label, and as many more
@@ -103,7 +104,7 @@ pub fn settle_state(m: &[u8], g: &[u8], n: usize, known: &[u8], state: &mut [i64
 
 // Entry e is flagged.
 fn known_at(known: &[u8], e: usize) -> bool
-    ensures { λ r. ⌜ r ≡ knownAt (now (known .entry)) e ⌝ }
+    ensures { λ r. ⌜ r ≡ isUp (now (known .entry)) e ⌝ }
 {
     folder::byte_at(known, e) == 1
 }
@@ -117,11 +118,8 @@ fn holds_at(state: &[i64], e: usize) -> bool
 
 // Reads entry e, which is not flagged, by all states of the label of node n.
 fn widen(m: &[u8], g: &[u8], n: usize, masks: &[u16], state: &[i64], e: usize, known: &mut [u8])
-    requires { ⌜ NodeOf (now m) (now g) n ⌝ }
-    requires { ⌜ A1 (modelOf (now m)) (simulationOf (modelOf (now m)) (now g)) n ≡ true ⌝ }
-    requires { ⌜ MasksOf (now m) (now masks) ⌝ }
-    requires { ⌜ NodeRead (now m) (now g) n (now known) (now state) ⌝ }
-    requires { ⌜ (e < modelOf (now m) .entries .count) × (knownAt (now known) e ≡ false) ⌝ }
+    requires { ⌜ Askable (now m) (now g) n (now masks) (now known) (now state) ⌝ }
+    requires { ⌜ (e < modelOf (now m) .entries .count) × (isUp (now known) e ≡ false) ⌝ }
     ensures { λ _. ⌜ LabelWidened (now (m .entry)) (now (g .entry)) n e (now (known .entry)) (now (known .exit)) ⌝ }
 {
     let vars = graph::variable_count(m);
@@ -144,13 +142,10 @@ fn ask(
     e: usize,
     known: &mut [u8],
 ) -> bool
-    requires { ⌜ NodeOf (now m) (now g) n ⌝ }
-    requires { ⌜ A1 (modelOf (now m)) (simulationOf (modelOf (now m)) (now g)) n ≡ true ⌝ }
-    requires { ⌜ MasksOf (now m) (now masks) ⌝ }
-    requires { ⌜ NodeRead (now m) (now g) n (now known) (now state) ⌝ }
+    requires { ⌜ Askable (now m) (now g) n (now masks) (now known) (now state) ⌝ }
     requires { ⌜ e < modelOf (now m) .entries .count ⌝ }
     ensures { λ _. ⌜ LabelWidened (now (m .entry)) (now (g .entry)) n e (now (known .entry)) (now (known .exit)) ⌝ }
-    ensures { λ r. ⌜ r ≡ knownAt (now (known .exit)) e ⌝ }
+    ensures { λ r. ⌜ r ≡ isUp (now (known .exit)) e ⌝ }
 {
     if known_at(known, e) {
         return true;
@@ -159,18 +154,32 @@ fn ask(
     known_at(known, e)
 }
 
-// The first of the commands whose guard does not read known; their count if each does.
+// The first of the commands in their body whose guard is not flagged; their count if each is.
+fn unflagged_guard(cs: &[u8], commands: usize, known: &[u8]) -> usize
+    requires { ⌜ commands ≤ fieldLimit ⌝ }
+    ensures { λ r. ⌜ r ≡ firstBad (λ c. isUp (now (known .entry)) (field 4 (now (cs .entry)) c 0)) commands ⌝ }
+{
+    let mut c = 0;
+    while c < commands {
+        if known_at(known, folder::field(4, cs, c, 0)) {
+            c += 1;
+        } else {
+            return c;
+        }
+    }
+    c
+}
+
+// The first of the commands whose guard does not read known; their count if each does. Where all are flagged, as most often,
+// none is asked.
 fn open_guard(m: &[u8], g: &[u8], n: usize, masks: &[u16], state: &[i64], known: &mut [u8]) -> usize
-    requires { ⌜ NodeOf (now m) (now g) n ⌝ }
-    requires { ⌜ A1 (modelOf (now m)) (simulationOf (modelOf (now m)) (now g)) n ≡ true ⌝ }
-    requires { ⌜ MasksOf (now m) (now masks) ⌝ }
-    requires { ⌜ NodeRead (now m) (now g) n (now known) (now state) ⌝ }
+    requires { ⌜ Askable (now m) (now g) n (now masks) (now known) (now state) ⌝ }
     ensures { λ r. ⌜ r ≡ openGuard (modelOf (now (m .entry))) (simulationOf (modelOf (now (m .entry))) (now (g .entry))) n ⌝ }
     ensures { λ _. ⌜ LabelFlagged (now (m .entry)) (now (g .entry)) n (now (known .exit)) ⌝ }
 {
     let cs = folder::body(m, 3);
     let commands = command_count(m);
-    let mut c = 0;
+    let mut c = unflagged_guard(cs, commands, known);
     while c < commands {
         if ask(m, g, n, masks, state, folder::field(4, cs, c, 0), known) {
             c += 1;
@@ -227,10 +236,7 @@ fn target_kept(
     due: bool,
     known: &mut [u8],
 ) -> Kept
-    requires { ⌜ NodeOf (now m) (now g) n ⌝ }
-    requires { ⌜ A1 (modelOf (now m)) (simulationOf (modelOf (now m)) (now g)) n ≡ true ⌝ }
-    requires { ⌜ MasksOf (now m) (now masks) ⌝ }
-    requires { ⌜ NodeRead (now m) (now g) n (now known) (now state) ⌝ }
+    requires { ⌜ Askable (now m) (now g) n (now masks) (now known) (now state) ⌝ }
     ensures { λ r. ⌜ (r .holds ≡ targetReads (modelOf (now (m .entry))) (simulationOf (modelOf (now (m .entry))) (now (g .entry))) n due) × (r .holds ≡ false → r .second ≡ lacked (readingOf (modelOf (now (m .entry))) (simulationOf (modelOf (now (m .entry))) (now (g .entry))) n (modelOf (now (m .entry)) .target))) ⌝ }
     ensures { λ _. ⌜ LabelFlagged (now (m .entry)) (now (g .entry)) n (now (known .exit)) ⌝ }
 {
@@ -256,10 +262,7 @@ fn expanded_kept(
     state: &[i64],
     known: &mut [u8],
 ) -> Kept
-    requires { ⌜ NodeOf (now m) (now g) n ⌝ }
-    requires { ⌜ A1 (modelOf (now m)) (simulationOf (modelOf (now m)) (now g)) n ≡ true ⌝ }
-    requires { ⌜ MasksOf (now m) (now masks) ⌝ }
-    requires { ⌜ NodeRead (now m) (now g) n (now known) (now state) ⌝ }
+    requires { ⌜ Askable (now m) (now g) n (now masks) (now known) (now state) ⌝ }
     requires { ⌜ simulationOf (modelOf (now m)) (now g) .kind n ≡ 1 ⌝ }
     ensures { λ r. ⌜ (r .holds ≡ A2 (modelOf (now (m .entry))) (simulationOf (modelOf (now (m .entry))) (now (g .entry))) n) × (r .holds ≡ false → r .second ≡ second19 (modelOf (now (m .entry))) (simulationOf (modelOf (now (m .entry))) (now (g .entry))) n) ⌝ }
     ensures { λ _. ⌜ LabelFlagged (now (m .entry)) (now (g .entry)) n (now (known .exit)) ⌝ }
@@ -274,10 +277,7 @@ fn expanded_kept(
 
 // Row 19.
 pub fn a2(m: &[u8], g: &[u8], n: usize, masks: &[u16], state: &[i64], known: &mut [u8]) -> Kept
-    requires { ⌜ NodeOf (now m) (now g) n ⌝ }
-    requires { ⌜ A1 (modelOf (now m)) (simulationOf (modelOf (now m)) (now g)) n ≡ true ⌝ }
-    requires { ⌜ MasksOf (now m) (now masks) ⌝ }
-    requires { ⌜ NodeRead (now m) (now g) n (now known) (now state) ⌝ }
+    requires { ⌜ Askable (now m) (now g) n (now masks) (now known) (now state) ⌝ }
     ensures { λ r. ⌜ (r .holds ≡ A2 (modelOf (now (m .entry))) (simulationOf (modelOf (now (m .entry))) (now (g .entry))) n) × (r .holds ≡ false → r .second ≡ second19 (modelOf (now (m .entry))) (simulationOf (modelOf (now (m .entry))) (now (g .entry))) n) ⌝ }
     ensures { λ _. ⌜ LabelFlagged (now (m .entry)) (now (g .entry)) n (now (known .exit)) ⌝ }
 {
@@ -660,12 +660,9 @@ fn edges_asked(
     state: &[i64],
     known: &mut [u8],
 ) -> Followed
-    requires { ⌜ NodeOf (now m) (now g) n ⌝ }
-    requires { ⌜ A1 (modelOf (now m)) (simulationOf (modelOf (now m)) (now g)) n ≡ true ⌝ }
+    requires { ⌜ Askable (now m) (now g) n (now masks) (now known) (now state) ⌝ }
     requires { ⌜ at ≡ startsAt (modelOf (now m)) (now g) n ⌝ }
     requires { ⌜ FirstsOf (now m) (now firsts) ⌝ }
-    requires { ⌜ MasksOf (now m) (now masks) ⌝ }
-    requires { ⌜ NodeRead (now m) (now g) n (now known) (now state) ⌝ }
     ensures { λ r. ⌜ (r .holds ≡ edgesFollow (modelOf (now (m .entry))) (simulationOf (modelOf (now (m .entry))) (now (g .entry))) n) × (r .holds ≡ true → r .next ≡ startsAt (modelOf (now (m .entry))) (now (g .entry)) (n + 1)) × (r .holds ≡ false → r .second ≡ second21 (modelOf (now (m .entry))) (simulationOf (modelOf (now (m .entry))) (now (g .entry))) n) ⌝ }
 {
     loop {
@@ -706,12 +703,9 @@ pub fn b2(
     state: &[i64],
     known: &mut [u8],
 ) -> Followed
-    requires { ⌜ NodeOf (now m) (now g) n ⌝ }
-    requires { ⌜ A1 (modelOf (now m)) (simulationOf (modelOf (now m)) (now g)) n ≡ true ⌝ }
+    requires { ⌜ Askable (now m) (now g) n (now masks) (now known) (now state) ⌝ }
     requires { ⌜ at ≡ startsAt (modelOf (now m)) (now g) n ⌝ }
     requires { ⌜ FirstsOf (now m) (now firsts) ⌝ }
-    requires { ⌜ MasksOf (now m) (now masks) ⌝ }
-    requires { ⌜ NodeRead (now m) (now g) n (now known) (now state) ⌝ }
     ensures { λ r. ⌜ (r .holds ≡ B2 (modelOf (now (m .entry))) (simulationOf (modelOf (now (m .entry))) (now (g .entry))) n) × (r .holds ≡ true → r .next ≡ startsAt (modelOf (now (m .entry))) (now (g .entry)) (n + 1)) × (r .holds ≡ false → r .second ≡ second21 (modelOf (now (m .entry))) (simulationOf (modelOf (now (m .entry))) (now (g .entry))) n) ⌝ }
 {
     if node_field(m, g, n, 0) == EXPANDED {

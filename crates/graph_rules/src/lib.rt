@@ -21,7 +21,7 @@ ghost use Rattle.graph.specs.Rules.{A1};
 ghost use Rattle.graph.specs.Table.{nodeRules, ruleRows, graphRows, summary};
 ghost use Rattle.graph.specs.Valid.{RowsRight};
 ghost use Rattle.graph.specs.Walks.{startsAt};
-ghost use Rattle.expand.specs.Node.{NodeOf, NodeRead, FirstsOf, MasksOf};
+ghost use Rattle.expand.specs.Node.{NodeOf, Askable, FirstsOf, MasksOf};
 ghost use Rattle.graph_rules.specs.Ready.{RulesReady, readingRules, coverRules};
 
 // Of a node: its first broken rule; and if none is broken, where the next node's edges start.
@@ -48,12 +48,9 @@ fn asked_rules(
     state: &[i64],
     known: &mut [u8],
 ) -> Ruled
-    requires { ⌜ NodeOf (now m) (now g) n ⌝ }
-    requires { ⌜ A1 (modelOf (now m)) (simulationOf (modelOf (now m)) (now g)) n ≡ true ⌝ }
+    requires { ⌜ Askable (now m) (now g) n (now masks) (now known) (now state) ⌝ }
     requires { ⌜ at ≡ startsAt (modelOf (now m)) (now g) n ⌝ }
     requires { ⌜ FirstsOf (now m) (now firsts) ⌝ }
-    requires { ⌜ MasksOf (now m) (now masks) ⌝ }
-    requires { ⌜ NodeRead (now m) (now g) n (now known) (now state) ⌝ }
     ensures { λ r. ⌜ (r .broken ≡ firstBroken (readingRules (now (m .entry)) (now (g .entry)) n)) × (r .broken .number ≡ 0 → r .next ≡ startsAt (modelOf (now (m .entry))) (now (g .entry)) (n + 1)) ⌝ }
 {
     let kept = expand::a2(m, g, n, masks, state, known);

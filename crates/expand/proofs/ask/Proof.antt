@@ -8,12 +8,12 @@ returns : tie.Need-returns
 returns c =
     let s = c .before .before .before .before .before .before .before .pre in
     let k = sym (c .before .known-at .ensures) ∙ c .if1 .taken in
-    (widened-up (s .1 .1 .1 .0) (s .1 .1 .1 .1) k, sym k)
+    (widened-up (s .0 .read) (s .1) k, sym k)
 
 widen-requires : tie.Need-widen-requires
 widen-requires c κs =
     let s = c .before .before .before .before .before .before .before .before .pre in
-    (s .0, (s .1 .0, (s .1 .1 .0, (s .1 .1 .1 .0, (s .1 .1 .1 .1, sym (c .before .before .known-at .ensures) ∙ c .before .if1 .left)))))
+    (s .0, (s .1, sym (c .before .before .known-at .ensures) ∙ c .before .if1 .left))
 
 returns-2 : tie.Need-returns-2
 returns-2 c = (c .before .before .before .before .widen .ensures, c .known-at2 .ensures)

@@ -19,35 +19,35 @@ abbrev μ-loop : tie.MeasureT-loop
 edges-follow-requires : tie.Need-edges-follow-requires Inv-loop μ-loop
 edges-follow-requires c κs =
     let s = c .before .before .before .before .before .before .before .pre in
-    let r = read-again (s .1 .1 .1 .1 .1) (c .before .loop .inv .0) (c .before .loop .inv .1) in
-    (s .0, (s .1 .1 .0, (s .1 .1 .1 .0, (r .stated, (r .known-long, r .state-long)))))
+    let a = read-again (s .0) (c .before .loop .inv .0) (c .before .loop .inv .1) in
+    (s .0 .node, (s .1 .0, (s .1 .1, (a .read .stated, (a .read .known-long, a .read .state-long)))))
 
 returns : tie.Need-returns Inv-loop μ-loop
 returns c =
     let s = c .before .before .before .before .before .before .before .before .before .pre in
-    let r = read-again (s .1 .1 .1 .1 .1) (c .before .before .before .loop .inv .0) (c .before .before .before .loop .inv .1) in
-    (all-follow (s .0) (s .1 .0) r (c .before .edges-follow .ensures .0) (c .if1 .taken), (λ h. c .before .edges-follow .ensures .1 .0 (c .if1 .taken)), λ h. absurd (false≢true (sym h)))
+    let a = read-again (s .0) (c .before .before .before .loop .inv .0) (c .before .before .before .loop .inv .1) in
+    (all-follow (a .node) (a .kept) (a .read) (c .before .edges-follow .ensures .0) (c .if1 .taken), (λ h. c .before .edges-follow .ensures .1 .0 (c .if1 .taken)), λ h. absurd (false≢true (sym h)))
 
 open-entry-requires : tie.Need-open-entry-requires Inv-loop μ-loop
 open-entry-requires c κs =
     let s = c .before .before .before .before .before .before .before .before .before .before .pre in
-    let r = read-again (s .1 .1 .1 .1 .1) (c .before .before .before .before .loop .inv .0) (c .before .before .before .before .loop .inv .1) in
-    (s .0 .model, record-small (s .0) (s .1 .0) r (c .before .before .edges-follow .ensures .0) (c .before .if1 .left) (c .before .before .edges-follow .ensures .1 .1 (c .before .if1 .left) .1))
+    let a = read-again (s .0) (c .before .before .before .before .loop .inv .0) (c .before .before .before .before .loop .inv .1) in
+    (s .0 .node .model, record-small (a .node) (a .kept) (a .read) (c .before .before .edges-follow .ensures .0) (c .before .if1 .left) (c .before .before .edges-follow .ensures .1 .1 (c .before .if1 .left) .1))
 
 returns-2 : tie.Need-returns-2 Inv-loop μ-loop
 returns-2 c =
     let s = c .before .before .before .before .before .before .before .before .before .before .before .before .pre in
-    let r = read-again (s .1 .1 .1 .1 .1) (c .before .before .before .before .before .before .loop .inv .0) (c .before .before .before .before .before .before .loop .inv .1) in
+    let a = read-again (s .0) (c .before .before .before .before .before .before .loop .inv .0) (c .before .before .before .before .before .before .loop .inv .1) in
     let w = c .before .before .before .before .edges-follow .ensures .1 .1 (c .before .before .before .if1 .left) in
-    let u = none-open (s .0) (s .1 .0) r (c .before .before .before .before .edges-follow .ensures .0) (c .before .before .before .if1 .left) (w .1) (w .0) (c .before .open-entry .ensures) (c .if2 .taken) in
-    (not-all-follow (s .0) (s .1 .0) r (c .before .before .before .before .edges-follow .ensures .0) (c .before .before .before .if1 .left) u, (λ h. absurd (false≢true h)), λ h. second-is (s .0) (s .1 .0) r (c .before .before .before .before .edges-follow .ensures .0) (c .before .before .before .if1 .left) u (w .0))
+    let u = none-open (a .node) (a .kept) (a .read) (c .before .before .before .before .edges-follow .ensures .0) (c .before .before .before .if1 .left) (w .1) (w .0) (c .before .open-entry .ensures) (c .if2 .taken) in
+    (not-all-follow (a .node) (a .kept) (a .read) (c .before .before .before .before .edges-follow .ensures .0) (c .before .before .before .if1 .left) u, (λ h. absurd (false≢true h)), λ h. second-is (a .node) (a .kept) (a .read) (c .before .before .before .before .edges-follow .ensures .0) (c .before .before .before .if1 .left) u (w .0))
 
 ask-requires : tie.Need-ask-requires Inv-loop μ-loop
 ask-requires c κs =
     let s = c .before .before .before .before .before .before .before .before .before .before .before .before .before .pre in
-    let r = read-again (s .1 .1 .1 .1 .1) (c .before .before .before .before .before .before .before .loop .inv .0) (c .before .before .before .before .before .before .before .loop .inv .1) in
+    let a = read-again (s .0) (c .before .before .before .before .before .before .before .loop .inv .0) (c .before .before .before .before .before .before .before .loop .inv .1) in
     let w = c .before .before .before .before .before .edges-follow .ensures .1 .1 (c .before .before .before .before .if1 .left) in
-    (s .0, (s .1 .0, (s .1 .1 .1 .1 .0, (r, one-open (s .0) (s .1 .0) r (c .before .before .before .before .before .edges-follow .ensures .0) (c .before .before .before .before .if1 .left) (w .1) (w .0) (c .before .before .open-entry .ensures) (c .before .if2 .left) .0))))
+    (a, one-open (a .node) (a .kept) (a .read) (c .before .before .before .before .before .edges-follow .ensures .0) (c .before .before .before .before .if1 .left) (w .1) (w .0) (c .before .before .open-entry .ensures) (c .before .if2 .left) .0)
 
 same-length-3 : tie.Need-same-length-3 Inv-loop μ-loop
 same-length-3 c = c .before .before .known .given ∙ c .before .before .before .before .before .before .before .before .before .before .before .loop .inv .1
@@ -55,19 +55,19 @@ same-length-3 c = c .before .before .known .given ∙ c .before .before .before 
 returns-3 : tie.Need-returns-3 Inv-loop μ-loop
 returns-3 c =
     let s = c .before .before .before .before .before .before .before .before .before .before .before .before .before .before .before .before .before .pre in
-    let r = read-again (s .1 .1 .1 .1 .1) (c .before .before .before .before .before .before .before .before .before .before .before .loop .inv .0) (c .before .before .before .before .before .before .before .before .before .before .before .loop .inv .1) in
+    let a = read-again (s .0) (c .before .before .before .before .before .before .before .before .before .before .before .loop .inv .0) (c .before .before .before .before .before .before .before .before .before .before .before .loop .inv .1) in
     let w = c .before .before .before .before .before .before .before .before .before .edges-follow .ensures .1 .1 (c .before .before .before .before .before .before .before .before .if1 .left) in
-    let o = one-open (s .0) (s .1 .0) r (c .before .before .before .before .before .before .before .before .before .edges-follow .ensures .0) (c .before .before .before .before .before .before .before .before .if1 .left) (w .1) (w .0) (c .before .before .before .before .before .before .open-entry .ensures) (c .before .before .before .before .before .if2 .left) in
-    let u = stays-unknown (s .0) (s .1 .0) r (c .before .before .before .before .before .before .before .before .before .edges-follow .ensures .0) (c .before .before .before .before .before .before .before .before .if1 .left) (o .2) (c .before .before .before .ask .ensures .0) (c .before .before .before .ask .ensures .1) (not-true _ (c .if3 .taken)) in
-    (not-all-follow (s .0) (s .1 .0) r (c .before .before .before .before .before .before .before .before .before .edges-follow .ensures .0) (c .before .before .before .before .before .before .before .before .if1 .left) u, (λ h. absurd (false≢true h)), λ h. second-is (s .0) (s .1 .0) r (c .before .before .before .before .before .before .before .before .before .edges-follow .ensures .0) (c .before .before .before .before .before .before .before .before .if1 .left) u (w .0))
+    let o = one-open (a .node) (a .kept) (a .read) (c .before .before .before .before .before .before .before .before .before .edges-follow .ensures .0) (c .before .before .before .before .before .before .before .before .if1 .left) (w .1) (w .0) (c .before .before .before .before .before .before .open-entry .ensures) (c .before .before .before .before .before .if2 .left) in
+    let u = stays-unknown (a .node) (a .kept) (a .read) (c .before .before .before .before .before .before .before .before .before .edges-follow .ensures .0) (c .before .before .before .before .before .before .before .before .if1 .left) (o .2) (c .before .before .before .ask .ensures .0) (c .before .before .before .ask .ensures .1) (not-true _ (c .if3 .taken)) in
+    (not-all-follow (a .node) (a .kept) (a .read) (c .before .before .before .before .before .before .before .before .before .edges-follow .ensures .0) (c .before .before .before .before .before .before .before .before .if1 .left) u, (λ h. absurd (false≢true h)), λ h. second-is (a .node) (a .kept) (a .read) (c .before .before .before .before .before .before .before .before .before .edges-follow .ensures .0) (c .before .before .before .before .before .before .before .before .if1 .left) u (w .0))
 
 loop-less : tie.Need-loop-less Inv-loop μ-loop
 loop-less c =
     let s = c .before .before .before .before .before .before .before .before .before .before .before .before .before .before .before .before .before .pre in
-    let r = read-again (s .1 .1 .1 .1 .1) (c .before .before .before .before .before .before .before .before .before .before .before .loop .inv .0) (c .before .before .before .before .before .before .before .before .before .before .before .loop .inv .1) in
+    let a = read-again (s .0) (c .before .before .before .before .before .before .before .before .before .before .before .loop .inv .0) (c .before .before .before .before .before .before .before .before .before .before .before .loop .inv .1) in
     let w = c .before .before .before .before .before .before .before .before .before .edges-follow .ensures .1 .1 (c .before .before .before .before .before .before .before .before .if1 .left) in
-    let o = one-open (s .0) (s .1 .0) r (c .before .before .before .before .before .before .before .before .before .edges-follow .ensures .0) (c .before .before .before .before .before .before .before .before .if1 .left) (w .1) (w .0) (c .before .before .before .before .before .before .open-entry .ensures) (c .before .before .before .before .before .if2 .left) in
-    fewer-after (s .0) (o .0) (o .1) (c .before .before .before .ask .ensures .0) (c .before .before .before .ask .ensures .1) (not-false _ (c .if3 .left))
+    let o = one-open (a .node) (a .kept) (a .read) (c .before .before .before .before .before .before .before .before .before .edges-follow .ensures .0) (c .before .before .before .before .before .before .before .before .if1 .left) (w .1) (w .0) (c .before .before .before .before .before .before .open-entry .ensures) (c .before .before .before .before .before .if2 .left) in
+    fewer-after (s .0 .node) (o .0) (o .1) (c .before .before .before .ask .ensures .0) (c .before .before .before .ask .ensures .1) (not-false _ (c .if3 .left))
 
 loop-again : tie.Need-loop-again Inv-loop μ-loop
 loop-again c = (c .before .before .before .ask .ensures .0 .flagged, c .before .before .known .given ∙ c .before .before .before .before .before .before .before .before .before .before .before .loop .inv .1)
@@ -78,7 +78,7 @@ edges-asked-spec =
     (tie.spec
     Inv-loop
     μ-loop
-    (λ c. (c .before .before .before .before .before .pre .1 .1 .1 .1 .1 .flagged, refl))
+    (λ c. (c .before .before .before .before .before .pre .0 .read .flagged, refl))
     edges-follow-requires
     (λ c. c .before .before .before .loop .inv .1)
     returns

@@ -1,10 +1,8 @@
-use Rattle.expand.specs.Tests.{knownAt}
 use borrow.Author.Needs.{needs}
 use Rattle.expand.proofs.known_at.Statement.{statement}
 use Rattle.expand.proofs.known_at.Tie as tie
 
 returns : tie.Need-returns
-unfolding knownAt
 returns c = cc
 
 pub known-at-spec : {M : Type 1} → statement M

@@ -17,7 +17,7 @@ returns c =
 b1-requires : tie.Need-b1-requires
 b1-requires c κs =
     let s = c .before .before .before .before .before .before .before .before .before .before .before .pre in
-    (s .0, (s .1 .0, (sym (c .before .before .before .before .a2 .ensures .0 .0) ∙ not-false _ (c .if1 .left), (s .1 .1 .0, s .1 .1 .1 .1 .1 .stated))))
+    (s .0 .node, (s .0 .kept, (sym (c .before .before .before .before .a2 .ensures .0 .0) ∙ not-false _ (c .if1 .left), (s .1 .0, s .0 .read .stated))))
 
 returns-2 : tie.Need-returns-2
 returns-2 c =
@@ -27,7 +27,7 @@ returns-2 c =
 b2-requires : tie.Need-b2-requires
 b2-requires c κs =
     let s = c .before .before .before .before .before .before .before .before .before .before .before .before .before .before .pre in
-    (s .0, (s .1 .0, (s .1 .1 .0, (s .1 .1 .1 .0, (s .1 .1 .1 .1 .0, read-again (s .1 .1 .1 .1 .1) (c .before .before .before .before .before .before .before .a2 .ensures .1) (c .before .before .before .before .before .before .known .given))))))
+    (read-again (s .0) (c .before .before .before .before .before .before .before .a2 .ensures .1) (c .before .before .before .before .before .before .known .given), (s .1 .0, s .1 .1))
 
 returns-3 : tie.Need-returns-3
 returns-3 c =

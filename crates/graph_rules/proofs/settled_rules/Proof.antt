@@ -10,20 +10,13 @@ settle-state-requires c κs = (c .before .before .before .before .before .before
 asked-rules-requires : tie.Need-asked-rules-requires
 asked-rules-requires c κs =
     let s = c .before .before .before .before .before .before .before .before .before .before .before .before .before .before .before .pre in (
-      s .0,
-      (
-        s .1 .0,
-        (
-          s .1 .1 .0,
-          (
-            s .1 .1 .1 .0,
-            (
-              s .1 .1 .1 .1,
-              record { flagged = c .before .before .before .before .before .before .before .before .settle-label .ensures .0; stated = c .before .before .before .settle-state .ensures; known-long = omega (arith, c .before .before .before .before .before .before .before .known2 .given); state-long = omega (arith, c .before .before .state4 .given) },
-            ),
-          ),
-        ),
-      ),
+      record {
+        node = s .0;
+        kept = s .1 .0;
+        masked = s .1 .1 .1 .1;
+        read = record { flagged = c .before .before .before .before .before .before .before .before .settle-label .ensures .0; stated = c .before .before .before .settle-state .ensures; known-long = omega (arith, c .before .before .before .before .before .before .before .known2 .given); state-long = omega (arith, c .before .before .state4 .given) };
+      },
+      (s .1 .1 .0, s .1 .1 .1 .0),
     )
 
 pub settled-rules-spec : {M : Type 1} → statement M
