@@ -33,9 +33,11 @@ use Rattle.graph.specs.Simulation.{Simulation, simulationOf}
 use Rattle.graph.specs.Labels.{tracks, labelOf, numberOf}
 use Rattle.graph.specs.Rules.{A1, resultIs, labelFollows, follows, edgeFollows, edgesFollow}
 use Rattle.graph.specs.Seconds.{secondOf, second21}
+use Rattle.graph.specs.Walks.{startsAt}
+use Rattle.graph.proofs.EdgePlaces.{place-start}
 use Rattle.expand.specs.Node.{NodeOf, NodeRead, LabelWidened}
 use Rattle.expand.specs.Tests.{readsAt}
-use Rattle.expand.specs.Follow.{labelFlagged, followsBy, successorBy, edgeBy, edgesBy, badEdgeBy, badBranchBy, badRecordBy, badSuccessorBy, apartIn, secondBy, openEntry}
+use Rattle.expand.specs.Follow.{labelFlagged, followsBy, successorBy, edgeBy, edgesBy, badEdgeBy, badBranchBy, badRecordBy, badSuccessorBy, apartIn, secondBy, flagsOf, FollowedTo, openEntry}
 use Rattle.expand.proofs.Readings.{number-known, known-number}
 
 all-of : (ok : ℕ → Bool) (n : ℕ) → ((k : ℕ) → k < n → ok k ≡ true) → all ok n ≡ true
@@ -67,7 +69,7 @@ module _ {m g : List ℕ} {n : ℕ} (node : NodeOf m g n) where
         both-and (all (resultIs M G n r s) (M .variables)) (all (strong r s) (M .variables)) (b .0)
         (all-of (strong r s) (M .variables) (λ v k. weaker r s v l k (all-true (weak r s) (M .variables) (b .1) v k)))
 
-    edge-weaker : (e : ℕ) → e < G .edges n → edgeBy M G n weak e ≡ true → edgeBy M G n strong e ≡ true
+    pub edge-weaker : (e : ℕ) → e < G .edges n → edgeBy M G n weak e ≡ true → edgeBy M G n strong e ≡ true
     unfolding edgeBy
     edge-weaker e l h =
         all-of (successorBy M G n strong e) (M .branches (G .command n e))
@@ -259,6 +261,30 @@ module _ {m g : List ℕ} {n : ℕ} (node : NodeOf m g n) where
                 let w = and-both (ltb (secondBy M G n flags) (M .variables)) (not (isUp known entry)) c in
                 (rw q (entry-here (ltb-true _ _ (w .0))), ap (isUp known) q ∙ not-true (isUp known entry) (w .1), q)
             go false c q = absurd (d q)
+
+-- ---- how far the walk over the edges has come
+pub at-start : (m g : List ℕ) (n : ℕ) (label : ℕ → ℕ → ℕ → Bool) {p : ℕ} → p ≡ startsAt (modelOf m) g n → FollowedTo m g n label 0 p
+at-start m g n label q = record { within = zero-le; before = λ k l. absurd (omega arith); stands = place-start _ _ _ q }
+
+-- What follows by some flags follows by more.
+pub followed-on : {m g : List ℕ} {n : ℕ} → NodeOf m g n → {asked : ℕ} {before after : List ℕ} → LabelWidened m g n asked before after → (state : List ℤ)
+    → {e p : ℕ} → FollowedTo m g n (flagsOf m g before state) e p → FollowedTo m g n (flagsOf m g after state) e p
+unfolding labelFlagged readsAt
+followed-on {m} {g} node {before = before} {after} w state f = record {
+  within = f .within;
+  before = λ k l. edge-weaker node (flagsOf m g before state) (flagsOf m g after state) weaker k (omega (arith, f .within)) (f .before k l);
+  stands = f .stands;
+}
+  where
+    weaker : (r s v : ℕ) → r < modelOf m .records → v < modelOf m .variables → flagsOf m g before state r s v ≡ true → flagsOf m g after state r s v ≡ true
+    weaker r s v l k = go (tracks (simulationOf (modelOf m) g) s v)
+      where
+        go : (t : Bool) → implies t (isUp before (modelOf m .assigned r v) && eqZ (getD state (modelOf m .assigned r v) (pos 0)) (simulationOf (modelOf m) g .label s v)) ≡ true
+            → implies t (isUp after (modelOf m .assigned r v) && eqZ (getD state (modelOf m .assigned r v) (pos 0)) (simulationOf (modelOf m) g .label s v)) ≡ true
+        go true p =
+            let b = and-both (isUp before (modelOf m .assigned r v)) (eqZ (getD state (modelOf m .assigned r v) (pos 0)) (simulationOf (modelOf m) g .label s v)) p in
+            both-and (isUp after (modelOf m .assigned r v)) _ (eq-eqb _ 1 (w .more (modelOf m .assigned r v) (eqb-true _ 1 (b .0)))) (b .1)
+        go false p = refl
 
 -- ---- how many entries are not flagged
 abbrev pub openFlags : ℕ → List ℕ → ℕ

@@ -1,6 +1,7 @@
 -- B2 as the code tests it: variables, branches and edges of a node whose rows are settled.
 -- Assumes nothing.
 use Prim.Native.Nat.{ℕ, _+_, _*_, _<_, _≤_}
+use native.Mathlib.Nat.{le-refl}
 use native.Mathlib.Omega.{arith}
 use mathlib.Core.Path.{_≡_, refl, sym, ap, ap₂, _∙_}
 use mathlib.Core.Bool.{Bool, true, false}
@@ -14,7 +15,7 @@ use Rattle.folder.specs.Fields.{fieldLimit, u16, signed16}
 use Rattle.folder.specs.Contents.{body, field}
 use Rattle.folder.proofs.ContentsLaws.{record-whole}
 use Rattle.folder.proofs.Decides.{all-same, all-both}
-use Rattle.folder.proofs.ScanLaws.{first-same, found-le}
+use Rattle.folder.proofs.ScanLaws.{Scanned, all-found, all-passed, first-same, found-le}
 use Rattle.whole.specs.Order.{eqZ}
 use Rattle.expressions.specs.Reading.{hasBit}
 use Rattle.states.proofs.Entries.{entry-number}
@@ -29,7 +30,7 @@ use Rattle.graph.specs.Rules.{resultIs}
 use Rattle.graph.proofs.EdgePlaces.{place-next}
 use Rattle.expand.specs.Node.{NodeOf, StateSettled, FirstsOf}
 use Rattle.expand.specs.Tests.{readsAt, Leads, AllLead, resultAt, labelAt, variableFollows, branchFollows, branchAt, apartBy}
-use Rattle.expand.specs.Follow.{labelFlagged, followsBy, successorBy, edgeBy, badEdgeBy, badRecordBy, apartIn, secondBy, flagsOf}
+use Rattle.expand.specs.Follow.{labelFlagged, followsBy, successorBy, edgeBy, badEdgeBy, badRecordBy, apartIn, secondBy, flagsOf, FollowedTo}
 
 -- ---- the code's tests of a variable, by their parts
 module _ (vars : ℕ) (nb bs : List ℕ) (from to v : ℕ) {e : ℕ} (pe : e ≡ u16 bs (from + 2 + 2 * v)) where
@@ -104,6 +105,14 @@ module _ {m g : List ℕ} {n : ℕ} (known : List ℕ) {state : List ℤ} (node 
         → apartBy (M .variables) (body g 0) (body m 4) known state (firstRecord M (G .command n e) + b) (G .successor n e b)
         ≡ apartIn M G n flags (firstRecord M (G .command n e) + b) (G .successor n e b)
     branch-apart b k = apart-is (firstRecord M (G .command n e) + b) (record-there M (node .model .model) (G .command n e) b l k) (G .successor n e b)
+
+-- ---- a walk over the edges, and how far it has come
+module _ {m g : List ℕ} {n : ℕ} {tells : ℕ → ℕ → ℕ → Bool} {edges e p : ℕ} where
+  pub followed-scan : FollowedTo m g n tells e p → edges ≡ nodeField (modelOf m) g n 4 → Scanned (edgeBy (modelOf m) (simulationOf (modelOf m) g) n tells) edges e
+  followed-scan f k = record { within = omega (arith, f .within); passed = all-found _ e (f .before) }
+
+  pub scan-followed : Scanned (edgeBy (modelOf m) (simulationOf (modelOf m) g) n tells) edges e → edges ≡ nodeField (modelOf m) g n 4 → p ≡ edgeAt (modelOf m) g n e → FollowedTo m g n tells e p
+  scan-followed s k q = record { within = omega (arith, s .within); before = all-passed _ e (sym (s .passed)) (le-refl e); stands = q }
 
 -- ---- as the code reads it
 -- Edge e of node n, of `edges`, stands at p; its command is c, which has so many branches.

@@ -1,8 +1,9 @@
 -- B2 with any test of the labels: with the rule's own, it is the rule; with the flags of the row, it is what the code can
 -- tell before it asks anything.
 -- Assumes nothing.
-use Prim.Native.Nat.{ℕ, _+_}
-use mathlib.Core.Bool.{Bool, not, _&&_}
+use Prim.Native.Nat.{ℕ, _+_, _<_, _≤_}
+use mathlib.Core.Path.{_≡_}
+use mathlib.Core.Bool.{Bool, true, not, _&&_}
 use mathlib.Core.List.{List}
 use lib.Dec.{ltb}
 use lib.IntN.{ℤ}
@@ -12,7 +13,7 @@ use Rattle.expressions.specs.Limits.{noVariable, mostExpressions}
 use Rattle.expressions.specs.Reading.{isTrue, isFalse}
 use Rattle.states.specs.Needed.{isUp}
 use Rattle.model.specs.Model.{Model, modelOf, firstRecord}
-use Rattle.graph.specs.Simulation.{Simulation, simulationOf}
+use Rattle.graph.specs.Simulation.{Simulation, simulationOf, edgeAt}
 use Rattle.graph.specs.Labels.{tracks, truthOf}
 use Rattle.graph.specs.Rules.{resultIs}
 use Rattle.expand.specs.Tests.{readsAt}
@@ -62,6 +63,12 @@ module _ (M : Model) (G : Simulation) where
 -- The flags of a row, over two folders' bytes.
 abbrev pub flagsOf : List ℕ → List ℕ → List ℕ → List ℤ → ℕ → ℕ → ℕ → Bool
 flagsOf m g known state = labelFlagged (modelOf m) (simulationOf (modelOf m) g) known state
+
+-- A walk over the edges of node n has come to edge e, which stands at p: by the test, those before it follow.
+pub record FollowedTo (m g : List ℕ) (n : ℕ) (label : ℕ → ℕ → ℕ → Bool) (e p : ℕ) : Type 0 where
+  pub within : e ≤ simulationOf (modelOf m) g .edges n
+  pub before : (k : ℕ) → k < e → edgeBy (modelOf m) (simulationOf (modelOf m) g) n label k ≡ true
+  pub stands : p ≡ edgeAt (modelOf m) g n e
 
 -- The entry to ask next, if branch record r does not follow because of variable v; past all entries where there is none.
 unfoldable pub openEntry : Model → List ℕ → ℕ → ℕ → ℕ

@@ -31,7 +31,7 @@ ghost use Rattle.graph.specs.Seconds.{openGuard, second19, second21};
 ghost use Rattle.graph.specs.Walks.{startsAt};
 ghost use Rattle.expand.specs.Node.{NodeOf, LabelFlagged, LabelWidened, FlaggedSettled, StateSettled, Askable, GuardsSettled, FirstsOf, MasksOf, RowsLong};
 ghost use Rattle.expand.specs.Tests.{holdsAt, readsAt, namesAt, Leads, AllLead, resultAt, labelAt, variableFollows, branchFollows, branchAt, apartBy};
-ghost use Rattle.expand.specs.Follow.{targetReads, edgesBy, badRecordBy, secondBy, flagsOf, openEntry};
+ghost use Rattle.expand.specs.Follow.{targetReads, edgesBy, badRecordBy, secondBy, flagsOf, FollowedTo, openEntry};
 
 // Fills the front of a row with the values of node n whose first is field f: 6 for the concrete label, and as many more
 // as there are variables for the abstract one.
@@ -565,32 +565,36 @@ pub struct Followed {
     pub second: usize,
 }
 
-// The same as far as the flags tell, and the record of the branch that does not follow.
+// The same as far as the flags tell; where it does not hold, `next` is where the edge stands that does not follow, with its
+// number and the record of its branch.
 struct Walk {
     holds: bool,
     next: usize,
     second: usize,
+    edge: usize,
     branch: usize,
 }
 
-// Each edge of node n, from `at` on.
+// Each edge of node n from `edge` on, which stands at `at`; those before follow.
 fn edges_follow(
     m: &[u8],
     g: &[u8],
     n: usize,
+    edge: usize,
     at: usize,
     firsts: &[usize],
     known: &[u8],
     state: &[i64],
 ) -> Walk
     requires { ⌜ NodeOf (now m) (now g) n ⌝ }
-    requires { ⌜ at ≡ startsAt (modelOf (now m)) (now g) n ⌝ }
+    requires { ⌜ FollowedTo (now m) (now g) n (flagsOf (now m) (now g) (now known) (now state)) edge at ⌝ }
     requires { ⌜ FirstsOf (now m) (now firsts) ⌝ }
     requires { ⌜ StateSettled (now m) (now g) n (now state) ⌝ }
     requires { ⌜ RowsLong (now known) (now state) ⌝ }
     ensures { λ r. ⌜ r .holds ≡ edgesBy (modelOf (now (m .entry))) (simulationOf (modelOf (now (m .entry))) (now (g .entry))) n (flagsOf (now (m .entry)) (now (g .entry)) (now (known .entry)) (now (state .entry))) ⌝ }
     ensures { λ r. ⌜ (r .holds ≡ true → r .next ≡ startsAt (modelOf (now (m .entry))) (now (g .entry)) (n + 1)) ⌝ }
     ensures { λ r. ⌜ (r .holds ≡ false → (r .second ≡ secondBy (modelOf (now (m .entry))) (simulationOf (modelOf (now (m .entry))) (now (g .entry))) n (flagsOf (now (m .entry)) (now (g .entry)) (now (known .entry)) (now (state .entry)))) × (r .branch ≡ badRecordBy (modelOf (now (m .entry))) (simulationOf (modelOf (now (m .entry))) (now (g .entry))) n (flagsOf (now (m .entry)) (now (g .entry)) (now (known .entry)) (now (state .entry))))) ⌝ }
+    ensures { λ r. ⌜ (r .holds ≡ false → FollowedTo (now (m .entry)) (now (g .entry)) n (flagsOf (now (m .entry)) (now (g .entry)) (now (known .entry)) (now (state .entry))) (r .edge) (r .next)) ⌝ }
 {
     let vars = graph::variable_count(m);
     let cs = folder::body(m, 3);
@@ -599,17 +603,17 @@ fn edges_follow(
     let eb = folder::body(g, 1);
     let edges = node_field(m, g, n, 4);
     let mut p = at;
-    let mut e = 0;
+    let mut e = edge;
     while e < edges {
         let c = folder::u16_at(eb, p);
         let branches = folder::field(4, cs, c, 1);
         let first = firsts[c];
-        let edge = Edge {
+        let branching = Edge {
             at: p,
             first,
             branches,
         };
-        let b = first_bad_branch(vars, nb, bs, known, state, eb, edge);
+        let b = first_bad_branch(vars, nb, bs, known, state, eb, branching);
         if b < branches {
             let s = folder::u16_at(eb, p + 2 + 2 * b);
             let branch = first + b;
@@ -618,6 +622,7 @@ fn edges_follow(
                 holds: false,
                 next: p,
                 second,
+                edge: e,
                 branch,
             };
         }
@@ -628,6 +633,7 @@ fn edges_follow(
         holds: true,
         next: p,
         second: 0,
+        edge: e,
         branch: 0,
     }
 }
@@ -665,8 +671,10 @@ fn edges_asked(
     requires { ⌜ FirstsOf (now m) (now firsts) ⌝ }
     ensures { λ r. ⌜ (r .holds ≡ edgesFollow (modelOf (now (m .entry))) (simulationOf (modelOf (now (m .entry))) (now (g .entry))) n) × (r .holds ≡ true → r .next ≡ startsAt (modelOf (now (m .entry))) (now (g .entry)) (n + 1)) × (r .holds ≡ false → r .second ≡ second21 (modelOf (now (m .entry))) (simulationOf (modelOf (now (m .entry))) (now (g .entry))) n) ⌝ }
 {
+    let mut edge = 0;
+    let mut p = at;
     loop {
-        let walk = edges_follow(m, g, n, at, firsts, known, state);
+        let walk = edges_follow(m, g, n, edge, p, firsts, known, state);
         if walk.holds {
             return Followed {
                 holds: true,
@@ -689,6 +697,8 @@ fn edges_asked(
                 second: walk.second,
             };
         }
+        edge = walk.edge;
+        p = walk.next;
     }
 }
 

@@ -5,23 +5,23 @@ use native.Mathlib.Omega.{arith}
 use denote.Ref.{now}
 use borrow.Author.Needs.{needs}
 use Rattle.folder.specs.Scan.{firstBad, all}
-use Rattle.folder.proofs.ScanLaws.{Scanned, scan-start, scan-next, scan-found, all-fails, all-pass}
+use Rattle.folder.proofs.ScanLaws.{Scanned, scan-next, scan-found, all-fails, all-pass}
 use Rattle.model.specs.Model.{modelOf}
 use Rattle.graph.specs.Limits.{mostBytes}
 use Rattle.graph.specs.Simulation.{edgeAt, simulationOf}
-use Rattle.graph.proofs.EdgePlaces.{place-start, place-over}
+use Rattle.graph.proofs.EdgePlaces.{place-over}
 use Rattle.expand.proofs.Sizes.{cursor-small}
-use Rattle.expand.proofs.FollowLaws.{EdgeRead, Held, next-stands, first-there, all-lead, records-fit, edge-passes, edge-breaks, branch-found, second-found}
+use Rattle.expand.proofs.FollowLaws.{EdgeRead, Held, followed-scan, scan-followed, next-stands, first-there, all-lead, records-fit, edge-passes, edge-breaks, branch-found, second-found}
 use Rattle.expand.specs.Follow.{edgeBy, flagsOf}
 use Rattle.expand.proofs.edges_follow.Statement.{statement}
 use Rattle.expand.proofs.edges_follow.Tie as tie
 
 abbrev Inv-loop : tie.InvT-loop
-Inv-loop m g n at firsts known state vars cs bs nb eb edges p₀ e₀ p e =
+Inv-loop m g n edge at firsts known state vars cs bs nb eb edges p₀ e₀ p e =
     Scanned (edgeBy (modelOf m) (simulationOf (modelOf m) g) n (flagsOf m g known state)) edges e × (p ≡ edgeAt (modelOf m) g n e)
 
 abbrev μ-loop : tie.MeasureT-loop
-μ-loop m g n at firsts known state vars cs bs nb eb edges p₀ e₀ p e = edges - e
+μ-loop m g n edge at firsts known state vars cs bs nb eb edges p₀ e₀ p e = edges - e
 
 abbrev start : tie.At-loop Inv-loop μ-loop → tie.Start Inv-loop μ-loop
 start l = l .before .before .before .before .before .before .before .before .before .before .before
@@ -54,7 +54,7 @@ read f = record {
 }
 
 loop-holds : tie.Need-loop-holds Inv-loop μ-loop
-loop-holds c = (scan-start _ _, place-start _ _ _ (c .before .before .before .before .before .before .before .before .before .before .pre .1 .0))
+loop-holds c = let w = c .before .before .before .before .before .before .before .before .before .before .pre .1 .0 in (followed-scan w (c .node-field .ensures .0), w .stands)
 
 u16-at-requires : tie.Need-u16-at-requires Inv-loop μ-loop
 u16-at-requires c κs = omega (arith, cursor (c .before))
@@ -100,7 +100,10 @@ returns c =
       all-fails (l .loop .inv .0) (f .before .before .loop-test .taken) b refl ∙ ap (all _) (l .before .node-field .ensures .0),
       (
         (λ h. absurd (false≢true h)),
-        λ h. (second-found (s .pre .0) (read f) (s .pre .1 .1 .0) _ (s .pre .1 .1 .1 .0) (held l) q t k refl (c .before .u16-at2 .ensures .0) (c .apart-by .ensures), branch-found (s .pre .0) (read f) (s .pre .1 .1 .0) _ (s .pre .1 .1 .1 .0) (held l) q t k refl),
+        (
+          (λ h. (second-found (s .pre .0) (read f) (s .pre .1 .1 .0) _ (s .pre .1 .1 .1 .0) (held l) q t k refl (c .before .u16-at2 .ensures .0) (c .apart-by .ensures), branch-found (s .pre .0) (read f) (s .pre .1 .1 .0) _ (s .pre .1 .1 .1 .0) (held l) q t k refl)),
+          λ h. scan-followed (l .loop .inv .0) (l .before .node-field .ensures .0) (l .loop .inv .1),
+        ),
       ),
     )
 
@@ -121,7 +124,7 @@ returns-2 c =
     let l = c .before in
     let k = l .before .node-field .ensures .0 in
     let q : l .loop .e ≡ l .before .node-field .result = omega (arith, l .loop .inv .0 .within) in
-    (all-pass (l .loop .inv .0) (c .loop-test .left) ∙ ap (all _) k, ((λ h. place-over _ _ _ (l .loop .inv .1 ∙ ap (edgeAt _ _ _) (q ∙ k))), λ h. absurd (false≢true (sym h))))
+    (all-pass (l .loop .inv .0) (c .loop-test .left) ∙ ap (all _) k, ((λ h. place-over _ _ _ (l .loop .inv .1 ∙ ap (edgeAt _ _ _) (q ∙ k))), ((λ h. absurd (false≢true (sym h))), λ h. absurd (false≢true (sym h)))))
 
 pub edges-follow-spec : {M : Type 1} → statement M
 edges-follow-spec =
