@@ -33,11 +33,9 @@ module _ (y : List ℕ) (m t : ℕ) (row₀ : List ℤ) where
   abbrev pub nextIn : ℕ → ℤ
   nextIn i = nextValue (boundIn y) m t i (getD row₀ i (pos 0))
 
-  -- The next combination, with what lies above r kept.
-  abbrev pub Next : List ℤ → ℕ → Type 0
-  Next row r =
-      ((vals : List ℤ) (j : ℕ) → row₀ ≡ combination (labelIn y t vals) m j → row ≡ combination (labelIn y t vals) m (suc j))
-      × ((v : ℕ) → r < v → getD row v (pos 0) ≡ getD row₀ v (pos 0))
+  -- The next combination.
+  abbrev pub Next : List ℤ → Type 0
+  Next row = (vals : List ℤ) (j : ℕ) → row₀ ≡ combination (labelIn y t vals) m j → row ≡ combination (labelIn y t vals) m (suc j)
 
   module _ (ranged : Ranged y) (vals : List ℤ) (j : ℕ) (e : row₀ ≡ combination (labelIn y t vals) m j) where
     abbrev L : Label
@@ -87,20 +85,15 @@ module _ {y : List ℕ} {m t n : ℕ} {row₀ row : List ℤ} {v : ℕ} (h : Mov
   below : (i : ℕ) → i < v → stopsIn y m t row₀ i ≡ false
   below i l = not-true (stopsIn y m t row₀ i) (all-passed (restsIn y m t row₀) v (sym (h .rested .passed)) (le-refl v) i l)
 
-  kept : {k : ℕ} {row′ : List ℤ} → row′ ≡ fill k (nextIn y m t row₀) row₀ → (i : ℕ) → k ≤ i → getD row′ i (pos 0) ≡ getD row₀ i (pos 0)
-  kept {k} e i l = ap (λ (d : List ℤ). getD d i (pos 0)) e ∙ getD-kept (pos 0) k (nextIn y m t row₀) row₀ i l
-
-  pub moving-over : n ≤ v → Next y m t row₀ row n
-  moving-over l =
-      let q : v ≡ countOf 6 y = omega (arith, h .put .within) in (
-        λ vals j e. h .put .is ∙ filled y m t row₀ ranged vals j e v (omega arith) below v (omega arith) (omega arith) (λ i k u. absurd (lt-irrefl v (omega arith))),
-        λ i u. kept (h .put .is) i (omega arith),
-      )
+  pub moving-over : n ≤ v → Next y m t row₀ row
+  moving-over l vals j e =
+      let q : v ≡ countOf 6 y = omega (arith, h .put .within) in
+      h .put .is ∙ filled y m t row₀ ranged vals j e v (omega arith) below v (omega arith) (omega arith) (λ i k u. absurd (lt-irrefl v (omega arith)))
 
   -- The code reads z at v, puts z′ there, and tests z.
   module _ {z z′ : ℤ} {b : Bool} (w : length row₀ ≡ countOf 6 y) (l : v < n) (e : z ≡ getD row v (pos 0)) (q : z′ ≡ nextValue (boundIn y) m t v z) (s : b ≡ stopsAt (boundIn y) m t v z) where
     read : z ≡ getD row₀ v (pos 0)
-    read = e ∙ kept (h .put .is) v (le-refl v)
+    read = e ∙ ap (λ (d : List ℤ). getD d v (pos 0)) (h .put .is) ∙ getD-kept (pos 0) v (nextIn y m t row₀) row₀ v (le-refl v)
 
     pub put-next : Filled (nextIn y m t row₀) n row₀ (set row v z′) (v + 1)
     put-next = fill-next (h .put) l (omega arith) (q ∙ ap (λ (x : ℤ). nextValue (boundIn y) m t v x) read)
@@ -111,11 +104,9 @@ module _ {y : List ℕ} {m t n : ℕ} {row₀ row : List ℤ} {v : ℕ} (h : Mov
     pub moving-next : b ≡ false → Moving y m t n row₀ (set row v z′) (v + 1)
     moving-next f = record { put = put-next; rested = scan-next (h .rested) l (ap not test) (ap not f) }
 
-    pub moving-found : b ≡ true → Next y m t row₀ (set row v z′) v
-    moving-found f =
-        let k : v < countOf 6 y = omega arith in (
-          λ vals j g. put-next .is ∙ filled y m t row₀ ranged vals j g v (omega arith) below (v + 1) (omega arith) (omega arith)
-              (λ i a u. above-stays (labelIn y t vals) m (ranged .ordered) j v k (all-last y m t row₀ ranged vals j g v (omega arith) below)
-              (stops-here y m t row₀ ranged vals j g v k true (sym test ∙ f)) i (omega arith)),
-          λ i a. kept (put-next .is) i (omega arith),
-        )
+    pub moving-found : b ≡ true → Next y m t row₀ (set row v z′)
+    moving-found f vals j g =
+        let k : v < countOf 6 y = omega arith in
+        put-next .is ∙ filled y m t row₀ ranged vals j g v (omega arith) below (v + 1) (omega arith) (omega arith)
+        (λ i a u. above-stays (labelIn y t vals) m (ranged .ordered) j v k (all-last y m t row₀ ranged vals j g v (omega arith) below)
+        (stops-here y m t row₀ ranged vals j g v k true (sym test ∙ f)) i (omega arith))

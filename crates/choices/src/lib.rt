@@ -3,8 +3,8 @@
 ghost use mathlib.Core.Path.{_≡_};
 ghost use mathlib.Core.List.{List};
 ghost use Prim.Native.Nat.{ℕ, suc, _<_, _≤_};
-ghost use lib.ListN.{length, getD};
-ghost use lib.IntN.{ℤ, pos};
+ghost use lib.ListN.{length};
+ghost use lib.IntN.{ℤ};
 ghost use lib.Signed.{mag, _≤ℤ_};
 ghost use Rattle.folder.specs.Fields.{fieldLimit};
 ghost use Rattle.folder.specs.Contents.{countOf};
@@ -124,13 +124,11 @@ fn next_value(y: &[u8], m: usize, t: usize, v: usize, z: i64) -> i64
 }
 
 // The next combination, in the row of the one before: the lowest free variable that is not at its high goes up by one, and
-// those below it go back to their lows. Its number is the answer, which no variable above has changed with; the count of
-// variables if all went back.
-pub fn advance(y: &[u8], m: usize, t: usize, row: &mut [i64]) -> usize
+// those below it go back to their lows.
+pub fn advance(y: &[u8], m: usize, t: usize, row: &mut [i64])
     requires { ⌜ Ranged (now y) ⌝ }
     requires { ⌜ length (now row) ≡ countOf 6 (now y) ⌝ }
     ensures { λ _. ⌜ ((vals : List ℤ) (j : ℕ) → now (row .entry) ≡ combination (labelIn (now (y .entry)) t vals) m j → now (row .exit) ≡ combination (labelIn (now (y .entry)) t vals) m (suc j)) ⌝ }
-    ensures { λ r. ⌜ ((v : ℕ) → r < v → getD (now (row .exit)) v (pos 0) ≡ getD (now (row .entry)) v (pos 0)) ⌝ }
 {
     let n = folder::count_of(6, y);
     let mut v = 0;
@@ -138,9 +136,8 @@ pub fn advance(y: &[u8], m: usize, t: usize, row: &mut [i64]) -> usize
         let z = row[v];
         row[v] = next_value(y, m, t, v, z);
         if stops_at(y, m, t, v, z) {
-            return v;
+            return;
         }
         v += 1;
     }
-    n
 }

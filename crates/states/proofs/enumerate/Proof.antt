@@ -55,7 +55,7 @@ add-j : tie.Need-add-j Inv-loop μ-loop
 add-j c = omega (arith, c .before .before .before .before .before .before .before .before .before .before .before .before .before .before .before .loop-test .taken, c .before .before .before .before .before .before .before .before .before .before .before .before .before .before .before .before .before .before .before .before .before .before .before .before .pre .1 .1 .0 .2)
 
 loop-again : tie.Need-loop-again Inv-loop μ-loop
-loop-again c = (look-next _ _ _ _ _ _ _ (c .before .before .before .before .before .before .before .before .before .before .before .before .before .before .before .before .loop .inv .0) (c .before .before .before .before .before .before .before .before .before .before .before .before .refresh .ensures) (c .before .before .before .before .before .before .before .before .compare .ensures) (c .before .before .before .before .before .before .before .flags .given) (sym (c .before .before .before .before .byte-at .ensures .0) ∙ c .before .before .before .if1 .left) (c .before .advance .ensures .0 _ _ (c .before .before .before .before .before .before .before .before .before .before .before .before .before .before .before .before .loop .inv .0 .at)), c .before .before .before .before .before .before .before .before .before .before .before .values2 .given)
+loop-again c = (look-next _ _ _ _ _ _ _ (c .before .before .before .before .before .before .before .before .before .before .before .before .before .before .before .before .loop .inv .0) (c .before .before .before .before .before .before .before .before .before .before .before .before .refresh .ensures) (c .before .before .before .before .before .before .before .before .compare .ensures) (c .before .before .before .before .before .before .before .flags .given) (sym (c .before .before .before .before .byte-at .ensures .0) ∙ c .before .before .before .if1 .left) (c .before .advance .ensures _ _ (c .before .before .before .before .before .before .before .before .before .before .before .before .before .before .before .before .loop .inv .0 .at)), c .before .before .before .before .before .before .before .before .before .before .before .values2 .given)
 
 same-length-3 : tie.Need-same-length-3 Inv-loop μ-loop
 same-length-3 c = combination-long _ _ _ _ (c .before .before .before .before .before .before .before .before .before .pre .0) _ _ (c .before .loop .inv .0 .at) ∙ sym (c .before .before .before .before .before .before .before .before .before .pre .1 .1 .1 .0)
