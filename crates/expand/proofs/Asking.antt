@@ -8,8 +8,8 @@ use mathlib.Core.Bool.{Bool, true, false, not, _&&_, false≢true}
 use mathlib.Core.List.{List}
 use native.Mathlib.Nat.{eq-or-lt-of-le, le-of-suc-le-suc, le-refl}
 use native.Mathlib.Omega.{arith}
-use borrow.Author.Tests.{eq-eqb, ne-eqb, eqb-true, lt-ltb, ltb-true, not-true}
-use lib.Dec.{ltb, eqb}
+use borrow.Author.Tests.{eq-eqb, eqb-true, lt-ltb, ltb-true, not-true}
+use lib.Dec.{ltb}
 use lib.ListN.{getD}
 use lib.IntN.{ℤ, pos}
 use Rattle.mdp.specs.Sums.{sum}
@@ -17,7 +17,7 @@ use Rattle.folder.specs.Pick.{pick, implies}
 use Rattle.folder.specs.Fields.{fieldLimit}
 use Rattle.folder.specs.Scan.{firstBad, all}
 use Rattle.folder.proofs.Decides.{and-both, both-and, second-fails, implies-fails}
-use Rattle.folder.proofs.ScanLaws.{found, found-at, all-found, all-true, stops-below, first-weaker}
+use Rattle.folder.proofs.ScanLaws.{found, all-true, all-of, not-all, stops-below, first-weaker}
 use Rattle.whole.specs.Order.{eqZ}
 use Rattle.expressions.specs.Limits.{mostExpressions, noVariable}
 use Rattle.expressions.specs.Reading.{reads}
@@ -25,7 +25,7 @@ use Rattle.expressions.specs.Right.{IsNumber}
 use Rattle.expressions.specs.declared.Number.{Number}
 use Rattle.expressions.specs.declared.Number.the-variants.{Known, Unknown as Open}
 use Rattle.states.specs.Needed.{isUp, Up}
-use Rattle.states.specs.Read.{isKnownNumber, readsKnown, Widened}
+use Rattle.states.specs.Read.{isKnownNumber, readsKnown}
 use Rattle.model.specs.Model.{Model, modelOf, firstRecord}
 use Rattle.model.proofs.Chances.{record-there}
 use Rattle.model.proofs.Limits.{limits}
@@ -39,16 +39,6 @@ use Rattle.expand.specs.Node.{NodeOf, NodeRead, LabelWidened}
 use Rattle.expand.specs.Tests.{readsAt}
 use Rattle.expand.specs.Follow.{labelFlagged, followsBy, successorBy, edgeBy, edgesBy, badEdgeBy, badBranchBy, badRecordBy, badSuccessorBy, apartIn, secondBy, flagsOf, FollowedTo, openEntry}
 use Rattle.expand.proofs.Readings.{number-known, known-number}
-
-all-of : (ok : ℕ → Bool) (n : ℕ) → ((k : ℕ) → k < n → ok k ≡ true) → all ok n ≡ true
-all-of ok n h = eq-eqb (firstBad ok n) n (all-found ok n h)
-
-not-all : (ok : ℕ → Bool) (n k : ℕ) → k < n → ok k ≡ false → all ok n ≡ false
-not-all ok n k l h = go (all ok n) refl
-  where
-    go : (b : Bool) → all ok n ≡ b → b ≡ false
-    go true e = absurd (false≢true (sym h ∙ all-true ok n e k l))
-    go false e = refl
 
 module _ {m g : List ℕ} {n : ℕ} (node : NodeOf m g n) where
   abbrev M : Model

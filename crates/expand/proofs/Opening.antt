@@ -8,7 +8,7 @@ use borrow.Author.Tests.{lt-ltb, le-ltb}
 use Rattle.folder.specs.Contents.{body, field}
 use Rattle.expressions.specs.Limits.{mostExpressions}
 use Rattle.states.specs.Needed.{isUp}
-use Rattle.model.specs.Layout.{variableCount, branchSize}
+use Rattle.model.specs.Layout.{variableCount}
 use Rattle.model.specs.Model.{modelOf}
 use Rattle.expand.specs.Follow.{openEntry}
 

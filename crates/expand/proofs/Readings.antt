@@ -2,11 +2,11 @@
 -- read in its label.
 -- Assumes nothing.
 use Prim.Native.Nat.{ℕ, _<_, _≤_}
-use mathlib.Core.Path.{_≡_, refl, sym, ap, ap₂, _∙_}
+use mathlib.Core.Path.{_≡_, refl, sym, ap, _∙_}
 use mathlib.Core.Bool.{Bool, true, false, not, false≢true, and-true}
 use mathlib.Core.List.{List}
 use native.Mathlib.Omega.{arith}
-use borrow.Author.Tests.{lt-ltb, le-ltb, eq-eqb, ne-eqb, eqb-true}
+use borrow.Author.Tests.{lt-ltb, le-ltb, eq-eqb, ne-eqb}
 use lib.ListN.{getD}
 use lib.IntN.{ℤ, pos}
 use Rattle.folder.specs.Pick.{pick}
@@ -14,11 +14,10 @@ use Rattle.folder.specs.Contents.{body, field}
 use Rattle.folder.proofs.ScanLaws.{found-le}
 use Rattle.whole.specs.Order.{eqZ}
 use Rattle.expressions.specs.Limits.{noVariable}
-use Rattle.expressions.specs.Meaning.{truthIn, numberIn}
-use Rattle.expressions.specs.Reading.{knownTruth, isKnown, isTrue, isFalse, reads}
+use Rattle.expressions.specs.Meaning.{truthIn}
+use Rattle.expressions.specs.Reading.{knownTruth, isKnown, isTrue, isFalse}
 use Rattle.expressions.specs.Mentions.{missing, mentions, carryT, lacked}
 use Rattle.expressions.specs.Right.{IsNumber, IsTruth}
-use Rattle.expressions.specs.States.{numberRead, truthRead}
 use Rattle.expressions.specs.declared.Number.{Number}
 use Rattle.expressions.specs.declared.Number.the-variants.{Known, Unknown as Open}
 use Rattle.expressions.specs.declared.Truth.{Truth}
@@ -26,20 +25,18 @@ use Rattle.expressions.specs.declared.Truth.the-variants.{True, False, Unknown}
 use Rattle.expressions.proofs.Sound.{known-is, true-is, false-is}
 use Rattle.expressions.proofs.States.{says-number, says-truth}
 use Rattle.evaluate.specs.Settled.{asNumber}
-use Rattle.states.specs.Stated.{entryIn, truthNumber}
-use Rattle.states.specs.Needed.{Up}
-use Rattle.states.specs.Read.{isKnownNumber, entryRead, readsKnown}
+use Rattle.states.specs.Read.{isKnownNumber, readsKnown}
 use Rattle.states.proofs.Entries.{truth-back, entry-number, entry-truth}
 use Rattle.states.proofs.Reading.{read-number, read-truth}
 use Rattle.model.specs.Layout.{variableCount}
 use Rattle.model.specs.Model.{Model, modelOf}
 use Rattle.graph.specs.Simulation.{Simulation, nodeField, simulationOf}
 use Rattle.graph.specs.Labels.{labelOf, concreteState, numberOf, truthOf, readingOf}
-use Rattle.graph.specs.Rules.{A1, A2, enabledIn, isExpanded}
+use Rattle.graph.specs.Rules.{A1, A2}
 use Rattle.graph.specs.Seconds.{openGuard, second19}
 use Rattle.graph.proofs.Decided.{a2-decided}
-use Rattle.expand.specs.Node.{NodeOf, LabelFlagged, StateSettled, NodeRead, GuardsSettled, MasksOf}
-use Rattle.expand.specs.Tests.{holdsAt, readsAt}
+use Rattle.expand.specs.Node.{NodeOf, StateSettled, GuardsSettled, MasksOf}
+use Rattle.expand.specs.Tests.{holdsAt}
 use Rattle.expand.specs.Follow.{targetReads}
 use Rattle.expand.proofs.Ready.{label-proper, own-holds}
 

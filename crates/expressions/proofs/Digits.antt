@@ -1,8 +1,8 @@
 -- Numbers by digits of mixed radix: every choice of digits is some number below the product of the radices.
 -- Assumes nothing.
-use Prim.Native.Nat.{ℕ, zero, suc, _+_, _*_, _/_, _%_, _-_, _≤_, _<_}
-use mathlib.Core.Path.{_≡_, refl, sym, ap, _∙_, subst}
-use native.Mathlib.Nat.{add-zero, add-suc, suc-add, zero-add, mul-one, mul-assoc, mul-le-mul-left, mul-le-mul, mod-lt, add-mul-div-left, div-eq-of-lt, add-mul-mod-self-left, mod-eq-of-lt, le-refl, le-trans, le-of-eq, mul-add, suc-mul, mul-suc}
+use Prim.Native.Nat.{ℕ, zero, suc, _+_, _*_, _%_, _-_, _≤_, _<_}
+use mathlib.Core.Path.{_≡_, refl}
+use native.Mathlib.Nat.{add-zero, zero-add, mul-one, mul-assoc, mul-le-mul-left, mul-le-mul, add-mul-div-left, div-eq-of-lt, add-mul-mod-self-left, mod-eq-of-lt, le-refl, le-trans, mul-suc}
 use native.Mathlib.Omega.{arith}
 use Rattle.expressions.specs.Combinations.{productOf, leftOf}
 

@@ -1,10 +1,9 @@
 -- The reading by all states is sound, and up to the limit known exactly where all states of the label agree; where document
 -- 01's reading is known, and where all is tracked, it is known; where it is unknown, a variable is missing.
 -- Assumes nothing.
-use Prim.Native.Nat.{ℕ, suc, _<_, _≤_}
-use mathlib.Core.Path.{_≡_, refl, sym, ap, _∙_, subst}
-use mathlib.Core.Bool.{Bool, true, false, not, false≢true}
-use mathlib.Core.List.{List}
+use Prim.Native.Nat.{ℕ, _<_, _≤_}
+use mathlib.Core.Path.{_≡_, refl, sym, _∙_, subst}
+use mathlib.Core.Bool.{Bool, true, false}
 use native.Mathlib.Omega.{arith}
 use borrow.Author.Tests.{le-leb}
 use lib.Dec.{leb}
@@ -26,11 +25,11 @@ use Rattle.expressions.specs.declared.Truth.the-variants.{True, False, U
 use Rattle.expressions.proofs.Sound.{Says, SaysT, number-sound, truth-sound, known-is, true-is, false-is}
 use Rattle.expressions.specs.Mentions.{mentions, Lowest}
 use Rattle.expressions.specs.Right.{IsNumber, IsTruth, EntryRight}
-use Rattle.expressions.specs.Combinations.{Label, Holds, Proper, combination}
-use Rattle.expressions.specs.States.{sameTruth, ways, numberBy, truthBy, numberByAll, truthByAll, numberThree, truthThree, numberRead, truthRead, lackedBy}
-use Rattle.expressions.proofs.Mentions.{number-depends, truth-depends}
+use Rattle.expressions.specs.Combinations.{Label, Holds, Proper, combinations, combination}
+use Rattle.expressions.specs.States.{sameTruth, ways, numberByAll, truthByAll, numberThree, truthThree, numberRead, truthRead, lackedBy}
+use Rattle.expressions.proofs.Mentions.{Agree, number-depends, truth-depends}
 use Rattle.expressions.proofs.Missing.{never-known, None, number-told, truth-told, number-lacks, truth-lacks}
-use Rattle.expressions.proofs.Combinations.{some-combination, combination-holds, placeOf, place-below, place-agrees}
+use Rattle.expressions.proofs.Combinations.{combination-holds, placeOf, place-below, place-agrees}
 
 -- Two truths are the same.
 pub same-truth : (a b : Bool) → Decides (a ≡ b) (sameTruth a b)
@@ -54,54 +53,60 @@ picked-truth : (t a b : Bool) → pick t (knownTruth a) Unknown ≡ knownTruth b
 picked-truth true a b e = (refl, known-same a b e)
 picked-truth false a b e = absurd (never-known b e)
 
+-- What the states of a label agree on, whatever is asked of a state that hangs on the variables of the set m alone.
+module _ {A : Type 0} (same : A → A → Bool) (decides : (a b : A) → Decides (a ≡ b) (same a b)) (L : Label) (P : Proper L) (m : ℕ) (of : State → A)
+    (depends : (s s′ : State) → Agree (valueOf s) (valueOf s′) m → of s ≡ of s′) where
+  abbrev count : ℕ
+  count = combinations (L .variables) (L .bound) (L .tracked) m
+
+  -- Every combination has it if and only if every state does, for each has what one of the combinations has.
+  all-decided : (z : A) → Decides ((s : State) → Holds L s → of s ≡ z) (all (λ j. same (of (combination L m j)) z) count)
+  all-decided z = reworded
+      (λ f s h. sym (depends (combination L m (placeOf L m P s h)) s (place-agrees L m P s h)) ∙ f (placeOf L m P s h) (place-below L m P s h))
+      (λ f j l. f (combination L m j) (combination-holds L m P j))
+      (everywhere count (λ j l. decides (of (combination L m j)) z))
+
+  -- Known where all combinations agree with the first: with a value if and only if every state of the label has it.
+  module _ {R : Type 0} (known : A → R) (unknown : R) (picked : (t : Bool) (a z : A) → pick t (known a) unknown ≡ known z → (t ≡ true) × (a ≡ z)) where
+    abbrev first : A
+    first = of (combination L m 0)
+
+    abbrev byAll : R
+    byAll = pick (all (λ j. same (of (combination L m j)) first) count) (known first) unknown
+
+    known-all : (z : A) → byAll ≡ known z → (s : State) → Holds L s → of s ≡ z
+    known-all z k s h = let q = picked (all (λ j. same (of (combination L m j)) first) count) first z k in all-decided first .yes (q .0) s h ∙ q .1
+
+    all-known : (z : A) → ((s : State) → Holds L s → of s ≡ z) → byAll ≡ known z
+    all-known z f =
+        let one : of (combination L m 0) ≡ z = f (combination L m 0) (combination-holds L m P 0) in
+        rw (one, all-decided z .no f) refl
+
 module _ (x : Entries) (L : Label) (P : Proper L) (e : ℕ) where
   abbrev m : ℕ
   m = mentions x e
 
-  -- Every state of the label has the value of one of the combinations.
-  number-place : (s : State) (h : Holds L s) → numberBy x L e (placeOf L m P s h) ≡ numberIn x s e
-  number-place s h = number-depends x (combination L m (placeOf L m P s h)) s e (place-agrees L m P s h)
+  abbrev number : State → ℤ
+  number s = numberIn x s e
 
-  truth-place : (s : State) (h : Holds L s) → truthBy x L e (placeOf L m P s h) ≡ truthIn x s e
-  truth-place s h = truth-depends x (combination L m (placeOf L m P s h)) s e (place-agrees L m P s h)
+  abbrev truth : State → Bool
+  truth s = truthIn x s e
 
-  -- What holds of every combination's value holds of every state's, and the other way.
-  pub numbers-decided : (z : ℤ) → Decides ((s : State) → Holds L s → numberIn x s e ≡ z) (all (λ j. eqZ (numberBy x L e j) z) (ways x L e))
-  numbers-decided z = reworded
-      (λ f s h. sym (number-place s h) ∙ f (placeOf L m P s h) (place-below L m P s h))
-      (λ f j l. f (combination L m j) (combination-holds L m P j))
-      (everywhere (ways x L e) (λ j l. equal-decided (numberBy x L e j) z))
-
-  pub truths-decided : (b : Bool) → Decides ((s : State) → Holds L s → truthIn x s e ≡ b) (all (λ j. sameTruth (truthBy x L e j) b) (ways x L e))
-  truths-decided b = reworded
-      (λ f s h. sym (truth-place s h) ∙ f (placeOf L m P s h) (place-below L m P s h))
-      (λ f j l. f (combination L m j) (combination-holds L m P j))
-      (everywhere (ways x L e) (λ j l. same-truth (truthBy x L e j) b))
-
-  -- Known with the value z if and only if every state of the label has it.
   pub number-known : (z : ℤ) → numberByAll x L e ≡ Known z → (s : State) → Holds L s → numberIn x s e ≡ z
   unfolding numberByAll
-  number-known z k s h =
-      let q = picked (all (λ j. eqZ (numberBy x L e j) (numberBy x L e 0)) (ways x L e)) (numberBy x L e 0) z k in
-      numbers-decided (numberBy x L e 0) .yes (q .0) s h ∙ q .1
+  number-known = known-all eqZ equal-decided L P m number (λ s s′ h. number-depends x s s′ e h) Known Open picked
 
   pub known-number : (z : ℤ) → ((s : State) → Holds L s → numberIn x s e ≡ z) → numberByAll x L e ≡ Known z
   unfolding numberByAll
-  known-number z f =
-      let one : numberBy x L e 0 ≡ z = f (combination L m 0) (combination-holds L m P 0) in
-      rw (one, numbers-decided z .no f) refl
+  known-number = all-known eqZ equal-decided L P m number (λ s s′ h. number-depends x s s′ e h) Known Open picked
 
   pub truth-known : (b : Bool) → truthByAll x L e ≡ knownTruth b → (s : State) → Holds L s → truthIn x s e ≡ b
   unfolding truthByAll
-  truth-known b k s h =
-      let q = picked-truth (all (λ j. sameTruth (truthBy x L e j) (truthBy x L e 0)) (ways x L e)) (truthBy x L e 0) b k in
-      truths-decided (truthBy x L e 0) .yes (q .0) s h ∙ q .1
+  truth-known = known-all sameTruth same-truth L P m truth (λ s s′ h. truth-depends x s s′ e h) knownTruth Unknown picked-truth
 
   pub known-truth : (b : Bool) → ((s : State) → Holds L s → truthIn x s e ≡ b) → truthByAll x L e ≡ knownTruth b
   unfolding truthByAll
-  known-truth b f =
-      let one : truthBy x L e 0 ≡ b = f (combination L m 0) (combination-holds L m P 0) in
-      rw (one, truths-decided b .no f) refl
+  known-truth = all-known sameTruth same-truth L P m truth (λ s s′ h. truth-depends x s s′ e h) knownTruth Unknown picked-truth
 
   -- ---- document 01's reading
   abbrev look : ℕ → Number

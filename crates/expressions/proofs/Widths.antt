@@ -12,7 +12,7 @@ use lib.IntN.{ℤ, pos, negℤ, natAbs, _+ℤ_, _-ℤ_, +ℤ-assoc, +ℤ-comm, +
 use lib.Signed.{mag, ltZ, _≤ℤ_, ltZ-yes, ltZ-no, clashℤ}
 use Rattle.folder.specs.Fields.{fieldLimit}
 use Rattle.whole.proofs.Fits.{mag-add, mag-negℤ}
-use Rattle.whole.proofs.Order.{_⊑_, to-⊑, from-⊑}
+use Rattle.whole.proofs.Order.{to-⊑, from-⊑}
 use Rattle.expressions.specs.Limits.{farthestBound}
 use Rattle.expressions.specs.declared.Range.{Range}
 use Rattle.expressions.specs.Combinations.{widthOf}

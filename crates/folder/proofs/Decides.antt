@@ -12,9 +12,9 @@ use lib.Dec.{T, ltb, leb, eqb}
 use lib.IntN.{ℤ}
 use lib.Signed.{leZ, _≤ℤ_}
 use Rattle.folder.specs.Pick.{pick, implies}
-use Rattle.folder.specs.Scan.{firstBad, all}
+use Rattle.folder.specs.Scan.{all}
 use Rattle.folder.specs.Tab.{sameList}
-use Rattle.folder.proofs.ScanLaws.{all-true, all-found}
+use Rattle.folder.proofs.ScanLaws.{all-true, all-of}
 
 pub record Decides (P : Type 0) (b : Bool) : Type 0 where
   pub yes : b ≡ true → P
@@ -87,7 +87,7 @@ whenever {a = a} {b = b} p q = record { yes = λ e h. q .yes (implies-by a b e (
 pub everywhere : (n : ℕ) {P : ℕ → Type 0} {ok : ℕ → Bool} → ((k : ℕ) → k < n → Decides (P k) (ok k)) → Decides ((k : ℕ) → k < n → P k) (all ok n)
 everywhere n {ok = ok} d = record {
   yes = λ e k l. d k l .yes (all-true ok n e k l);
-  no = λ f. eq-eqb (firstBad ok n) n (all-found ok n (λ k l. d k l .no (f k l)));
+  no = λ f. all-of ok n (λ k l. d k l .no (f k l));
 }
 
 or-by : (a b : Bool) → (a || b) ≡ true → (a ≡ true) ⊎ (b ≡ true)

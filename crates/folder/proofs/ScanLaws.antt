@@ -85,6 +85,13 @@ module _ (ok : ℕ → Bool) where
   all-found zero h = scan-none
   all-found (suc n) h = scan-suc n (all-found n (λ k l. h k (omega arith))) (h n (omega arith))
 
+  pub all-of : (n : ℕ) → ((k : ℕ) → k < n → ok k ≡ true) → all ok n ≡ true
+  all-of n h = eq-eqb (firstBad ok n) n (all-found n h)
+
+  -- one place that is not ok is enough
+  pub not-all : (n k : ℕ) → k < n → ok k ≡ false → all ok n ≡ false
+  not-all n k l e = ⊎-elim (λ t. absurd (false≢true (sym e ∙ all-true n t k l))) (λ f. f) (bool-cases (all ok n))
+
   pub found-at : (n p : ℕ) → p < n → ((k : ℕ) → k < p → ok k ≡ true) → ok p ≡ false → firstBad ok n ≡ p
   found-at n p l b h = scan-stop p n (all-found p b) h l
 

@@ -6,7 +6,7 @@ use mathlib.Core.Bool.{Bool, true, false}
 use mathlib.Core.List.{List}
 use native.Mathlib.Decide.{ℕ-discrete, decLt}
 use native.Mathlib.Omega.{arith}
-use borrow.Author.Tests.{not-true, le-ltb}
+use borrow.Author.Tests.{not-true}
 use lib.ListN.{getD, length, set, length-set}
 use lib.Seq.{getD-set-same, getD-set-other}
 use lib.IntN.{ℤ, pos}
@@ -25,7 +25,7 @@ use Rattle.expressions.specs.declared.NumberForm.the-variants.{Binary, If}
 use Rattle.expressions.specs.declared.TruthForm.{TruthForm}
 use Rattle.expressions.specs.declared.Arith.{Arith}
 use Rattle.expressions.proofs.Decided.{number-decided}
-use Rattle.expressions.proofs.Interval.{In, in-range}
+use Rattle.expressions.proofs.Interval.{in-range}
 use Rattle.expressions.proofs.Levels.{equal, each-number, each-truth, lower, number-settled, truth-settled}
 use Rattle.expressions.proofs.Parts.{both-number, both-truth, map-number, map-truth}
 use Rattle.expressions.proofs.Related.{number-step, truth-step}

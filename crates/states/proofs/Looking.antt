@@ -2,7 +2,6 @@
 -- Assumes nothing.
 use Prim.Native.Nat.{ℕ, suc, _+_, _≤_, _<_}
 use mathlib.Core.Path.{_≡_, refl, sym, ap, _∙_}
-use mathlib.Core.Bool.{Bool, true, false}
 use mathlib.Core.List.{List}
 use native.Mathlib.Decide.{decLt}
 use native.Mathlib.Numerals.{add-one}
@@ -13,13 +12,13 @@ use Rattle.folder.specs.Contents.{countOf}
 use Rattle.folder.proofs.TabLaws.{length-tab}
 use Rattle.expressions.specs.Entries.{Entries}
 use Rattle.expressions.specs.Meaning.{State, valueOf}
-use Rattle.expressions.specs.Ranges.{boundIn, span}
+use Rattle.expressions.specs.Ranges.{boundIn}
 use Rattle.expressions.specs.Combinations.{Label, Holds, combination, valueIn}
 use Rattle.expressions.proofs.Combinations.{combination-holds}
 use Rattle.expressions.proofs.Interval.{In, in-one, bound-past}
 use Rattle.evaluate.specs.Formed.{Grounded}
 use Rattle.choices.specs.Ranged.{labelIn}
-use Rattle.states.specs.Stated.{entryIn, HasEntry, HasAll}
+use Rattle.states.specs.Stated.{entryIn, HasAll}
 use Rattle.states.specs.Needed.{Up, Before, Compared}
 use Rattle.states.specs.Read.{Readable, AllAgree, OneDiffers}
 

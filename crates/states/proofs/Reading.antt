@@ -4,32 +4,27 @@ use Prim.Native.Nat.{ℕ, _<_, _≤_}
 use mathlib.Core.Path.{_≡_, refl, sym, ap, _∙_}
 use mathlib.Core.Logic.{inl, inr}
 use mathlib.Core.Bool.{Bool, true, false, false≢true}
-use mathlib.Core.List.{List}
 use native.Mathlib.Omega.{arith}
 use borrow.Author.Tests.{not-true, le-leb, lt-leb}
-use lib.Dec.{leb}
-use lib.ListN.{getD}
 use lib.IntN.{ℤ, pos}
-use Rattle.folder.specs.Pick.{pick}
-use Rattle.folder.specs.Scan.{all}
 use Rattle.folder.proofs.Decides.{everywhere, unless}
 use Rattle.whole.specs.Order.{eqZ}
 use Rattle.whole.proofs.Order.{equal-decided}
 use Rattle.expressions.specs.Limits.{mostCombinations}
-use Rattle.expressions.specs.Entries.{Entries, numberForm, truthForm, isNumber, isTruth}
+use Rattle.expressions.specs.Entries.{Entries, isNumber, isTruth}
 use Rattle.expressions.specs.Meaning.{State, numberIn, truthIn}
-use Rattle.expressions.specs.Reading.{knownTruth, lookIn, readNumber, readTruth}
+use Rattle.expressions.specs.Reading.{knownTruth, lookIn}
 use Rattle.expressions.specs.Right.{IsNumber, IsTruth, EntryRight}
 use Rattle.expressions.specs.Combinations.{Label, Holds, Proper, combination}
 use Rattle.expressions.specs.Mentions.{mentions}
-use Rattle.expressions.specs.States.{sameTruth, ways, numberBy, truthBy, numberByAll, truthByAll, numberThree, truthThree, numberRead, truthRead}
+use Rattle.expressions.specs.States.{ways, numberBy, truthBy, numberByAll, truthByAll, numberThree, truthThree, numberRead, truthRead}
 use Rattle.expressions.specs.declared.Number.{Number}
 use Rattle.expressions.specs.declared.Number.the-variants.{Known, Unknown as Open}
 use Rattle.expressions.specs.declared.Truth.{Truth}
 use Rattle.expressions.specs.declared.Truth.the-variants.{True, False, Unknown}
 use Rattle.expressions.proofs.Decided.{number-decided, truth-decided}
 use Rattle.expressions.proofs.Forms.{no-number, no-truth}
-use Rattle.expressions.proofs.Sound.{Says, SaysT, known-is, true-is, false-is}
+use Rattle.expressions.proofs.Sound.{known-is, true-is, false-is}
 use Rattle.expressions.proofs.States.{same-truth, says-number, says-truth, number-stays, truth-stays}
 use Rattle.evaluate.specs.Settled.{asNumber, contentOf, entryReading}
 use Rattle.states.specs.Stated.{truthNumber, entryIn}

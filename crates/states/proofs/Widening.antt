@@ -28,7 +28,7 @@ use Rattle.expressions.proofs.Combinations.{some-combination, combination-holds
 use Rattle.choices.specs.Ranged.{labelIn, capped}
 use Rattle.states.specs.Stated.{entryIn}
 use Rattle.states.specs.Needed.{isUp, Up, flagIf, inGroup, ClosedFrom, Before, Chosen, eitherUp}
-use Rattle.states.specs.Read.{readsKnown, Flagged, AllAgree, OneDiffers, Asked, Widened}
+use Rattle.states.specs.Read.{readsKnown, AllAgree, OneDiffers, Asked, Widened}
 use Rattle.states.proofs.Flags.{ordered}
 use Rattle.states.proofs.Reading.{all-known, unknown-above, known-same}
 

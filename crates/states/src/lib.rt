@@ -19,7 +19,7 @@ ghost use Rattle.expressions.specs.Mentions.{union, mentions};
 ghost use Rattle.expressions.specs.Ranges.{boundIn};
 ghost use Rattle.expressions.specs.Combinations.{combinations};
 ghost use Rattle.evaluate.specs.Formed.{Grounded};
-ghost use Rattle.states.specs.Stated.{truthNumber, entryIn, Parted, HasFlagged, HasAll, StateRow};
+ghost use Rattle.states.specs.Stated.{entryIn, Parted, HasFlagged, HasAll, StateRow};
 ghost use Rattle.choices.specs.Ranged.{labelIn};
 ghost use Rattle.states.specs.Read.{Readable, AllAgree, OneDiffers, Asked, Widened};
 ghost use Rattle.states.specs.Needed.{isUp, Up, flagIf, inGroup, PartsUp, ClosedFrom, Before, Ordered, Chosen, Raised, keptIf, Compared, eitherUp};

@@ -1,4 +1,4 @@
-use mathlib.Core.Path.{refl, sym, _∙_}
+use mathlib.Core.Path.{sym, _∙_}
 use Rattle.expand.proofs.Ready.{widened-up}
 use borrow.Author.Needs.{needs}
 use Rattle.expand.proofs.ask.Statement.{statement}

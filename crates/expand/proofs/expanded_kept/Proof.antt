@@ -1,4 +1,4 @@
-use mathlib.Core.Path.{refl, sym, ap, _∙_}
+use mathlib.Core.Path.{_∙_}
 use native.Mathlib.Omega.{arith}
 use Rattle.expand.proofs.Readings.{a2-open, second-open, a2-closed, second-closed}
 use Rattle.expand.proofs.Guards.{read-again, guard-there, guard-open, guard-lacked}

@@ -1,5 +1,4 @@
 use Prim.Native.Nat.{_-_}
-use mathlib.Core.Path.{ap, _∙_}
 use Rattle.folder.specs.Contents.{field}
 use Rattle.folder.proofs.ScanLaws.{Scanned, scan-start, scan-next, scan-found, scan-over}
 use Rattle.states.specs.Needed.{isUp}

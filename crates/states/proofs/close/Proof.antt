@@ -1,5 +1,3 @@
-use Prim.Native.Nat.{_-_}
-use mathlib.Core.Path.{sym}
 use native.Mathlib.Omega.{arith}
 use Rattle.expressions.specs.Entries.{entriesOf}
 use Rattle.states.proofs.Flags.{ClosedDown, close-start, close-next, close-over}

@@ -1,5 +1,4 @@
 use mathlib.Core.Path.{_∙_, ap, sym}
-use lib.IntN.{ℤ}
 use Rattle.folder.proofs.Signed.{back}
 use Rattle.states.specs.Stated.{truthNumber, entryIn}
 use borrow.Author.Needs.{needs}

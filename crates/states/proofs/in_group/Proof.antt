@@ -1,4 +1,4 @@
-use mathlib.Core.Path.{refl, _∙_}
+use mathlib.Core.Path.{refl}
 use Rattle.states.specs.Needed.{inGroup}
 use borrow.Author.Needs.{needs}
 use Rattle.states.proofs.in_group.Statement.{statement}

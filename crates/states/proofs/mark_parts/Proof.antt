@@ -1,8 +1,5 @@
-use mathlib.Core.Path.{refl, sym, _∙_}
 use native.Mathlib.Omega.{arith}
-use Rattle.expressions.specs.Entries.{entriesOf, numberForm}
-use Rattle.expressions.proofs.Parts.{map-number}
-use Rattle.states.specs.Needed.{Up}
+use Rattle.expressions.specs.Entries.{entriesOf}
 use Rattle.states.proofs.Flags.{raised-none, raised-then, both-marked}
 use borrow.Author.Needs.{needs}
 use Rattle.states.proofs.mark_parts.Statement.{statement}

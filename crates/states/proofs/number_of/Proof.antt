@@ -1,4 +1,4 @@
-use mathlib.Core.Path.{_∙_, ap, ap₂}
+use mathlib.Core.Path.{_∙_, ap₂}
 use Rattle.folder.proofs.Signed.{back}
 use Rattle.expressions.specs.Entries.{entriesOf}
 use Rattle.expressions.specs.Operations.{arithZ}
