@@ -24,7 +24,7 @@ use Rattle.model.specs.Layout.{variableCount, branchSize}
 use Rattle.model.specs.Model.{Model, modelOf, firstRecord}
 use Rattle.model.proofs.Chances.{record-there}
 use Rattle.model.proofs.Limits.{limits, records-small}
-use Rattle.graph.specs.Simulation.{Simulation, nodeSize, edgeSize, edgeAt, nodeField, simulationOf}
+use Rattle.graph.specs.Simulation.{Simulation, nodeSize, edgeSize, edgeAt, commandIn, nodeField, simulationOf}
 use Rattle.graph.specs.Labels.{concreteState}
 use Rattle.graph.specs.Rules.{resultIs}
 use Rattle.graph.proofs.EdgePlaces.{place-next}
@@ -115,15 +115,20 @@ module _ {m g : List ℕ} {n : ℕ} {tells : ℕ → ℕ → ℕ → Bool} {edge
   scan-followed s k q = record { within = omega (arith, s .within); before = all-passed _ e (sym (s .passed)) (le-refl e); stands = q }
 
 -- ---- as the code reads it
--- Edge e of node n, of `edges`, stands at p; its command is c, which has so many branches.
-pub record EdgeRead (m g : List ℕ) (n : ℕ) (cs eb : List ℕ) (edges e p c branches : ℕ) : Type 0 where
-  pub commands-in : cs ≡ body m 3
+-- Edge e of node n, of `edges`, stands at p.
+pub record EdgeHere (m g : List ℕ) (n : ℕ) (eb : List ℕ) (edges e p : ℕ) : Type 0 where
   pub edges-in : eb ≡ body g 1
   pub count : edges ≡ nodeField (modelOf m) g n 4
   pub within : e < edges
   pub stands : p ≡ edgeAt (modelOf m) g n e
-  pub command : c ≡ u16 eb p
-  pub branching : branches ≡ field 4 cs c 1
+
+-- Its command has so many branches, whose records stand from `first` on.
+pub record EdgeRead (m g : List ℕ) (n : ℕ) (cs eb firsts : List ℕ) (edges e p at first branches : ℕ) : Type 0 where
+  pub here : EdgeHere m g n eb edges e p
+  pub commands-in : cs ≡ body m 3
+  pub same : at ≡ p
+  pub starting : first ≡ getD firsts (commandIn eb p) 0
+  pub branching : branches ≡ field 4 cs (commandIn eb p) 1
 
 -- What the code holds besides: the count of variables, and the bodies of branch records and of nodes.
 pub record Held (m g : List ℕ) (vars : ℕ) (bs nb : List ℕ) : Type 0 where
@@ -131,18 +136,22 @@ pub record Held (m g : List ℕ) (vars : ℕ) (bs nb : List ℕ) : Type 0 where
   pub records-in : bs ≡ body m 4
   pub nodes-in : nb ≡ body g 0
 
-module _ {m g : List ℕ} {n : ℕ} {cs eb : List ℕ} {edges e p c branches : ℕ} (node : NodeOf m g n) (read : EdgeRead m g n cs eb edges e p c branches) where
-  command-is : c ≡ simulationOf (modelOf m) g .command n e
-  command-is = read .command ∙ ap₂ u16 (read .edges-in) (read .stands)
-
-  branches-are : branches ≡ modelOf m .branches (simulationOf (modelOf m) g .command n e)
-  branches-are = read .branching ∙ ap₂ (λ (b : List ℕ) (i : ℕ). field 4 b i 1) (read .commands-in) command-is
+module _ {m g : List ℕ} {n : ℕ} {eb : List ℕ} {edges e p : ℕ} (node : NodeOf m g n) (here : EdgeHere m g n eb edges e p) where
+  command-is : commandIn eb p ≡ simulationOf (modelOf m) g .command n e
+  command-is = ap₂ commandIn (here .edges-in) (here .stands)
 
   inside : e < nodeField (modelOf m) g n 4
-  inside = omega (arith, read .within, read .count)
+  inside = omega (arith, here .within, here .count)
 
   command-there : simulationOf (modelOf m) g .command n e < modelOf m .commands
   command-there = node .rows .content .edges n (node .there) e inside .command
+
+  pub first-there : {firsts : List ℕ} → FirstsOf m firsts → commandIn eb p < length firsts
+  first-there table = omega (arith, command-is, command-there, table .long)
+
+module _ {m g : List ℕ} {n : ℕ} {cs eb firsts : List ℕ} {edges e p at first branches : ℕ} (node : NodeOf m g n) (read : EdgeRead m g n cs eb firsts edges e p at first branches) where
+  branches-are : branches ≡ modelOf m .branches (simulationOf (modelOf m) g .command n e)
+  branches-are = read .branching ∙ ap₂ (λ (b : List ℕ) (i : ℕ). field 4 b i 1) (read .commands-in) (command-is node (read .here))
 
   assigned-there : (r : ℕ) → r < modelOf m .records → (v : ℕ) → v < modelOf m .variables → u16 (body m 4) (branchSize (variableCount m) * r + 2 * (1 + v)) < mostExpressions
   unfolding field
@@ -150,33 +159,30 @@ module _ {m g : List ℕ} {n : ℕ} {cs eb : List ℕ} {edges e p c branches : �
 
   pub next-stands : p + (2 + 2 * branches) ≡ edgeAt (modelOf m) g n (e + 1)
   unfolding edgeSize
-  next-stands = place-next (modelOf m) g n e (read .edges-in) (read .stands) (cc (read .branching, read .commands-in, read .command))
+  next-stands = place-next (modelOf m) g n e (read .here .edges-in) (read .here .stands) (cc (read .branching, read .commands-in))
 
-  module _ {firsts : List ℕ} (table : FirstsOf m firsts) where
-    pub first-there : c < length firsts
-    first-there = omega (arith, command-is, command-there, table .long)
-
-    first-is : getD firsts c 0 ≡ firstRecord (modelOf m) (simulationOf (modelOf m) g .command n e)
-    first-is = ap (λ (i : ℕ). getD firsts i 0) command-is ∙ table .placed _ command-there
+  module _ (table : FirstsOf m firsts) where
+    first-is : first ≡ firstRecord (modelOf m) (simulationOf (modelOf m) g .command n e)
+    first-is = read .starting ∙ ap (λ (i : ℕ). getD firsts i 0) (command-is node (read .here)) ∙ table .placed _ (command-there node (read .here))
 
     -- Records are whole, and entries that are assigned are among the model's.
-    pub all-lead : {vars : ℕ} {bs nb : List ℕ} → Held m g vars bs nb → AllLead vars nb bs eb (getD firsts c 0) branches p
-    all-lead held = rw (first-is, branches-are, held .variables, held .records-in, held .nodes-in, read .edges-in, read .stands) (record {
+    pub all-lead : {vars : ℕ} {bs nb : List ℕ} → Held m g vars bs nb → AllLead vars nb bs eb first branches at
+    all-lead held = rw (first-is, branches-are, held .variables, held .records-in, held .nodes-in, read .here .edges-in, read .same, read .here .stands) (record {
       each = λ b l.
-          let r = record-there (modelOf m) (node .model .model) (simulationOf (modelOf m) g .command n e) b command-there l in record {
+          let r = record-there (modelOf m) (node .model .model) (simulationOf (modelOf m) g .command n e) b (command-there node (read .here)) l in record {
             branch = record-whole (branchSize (variableCount m)) (body m 4) _ r;
-            node = record-whole (nodeSize (variableCount m)) (body g 0) _ (node .rows .content .edges n (node .there) e inside .successors b l);
+            node = record-whole (nodeSize (variableCount m)) (body g 0) _ (node .rows .content .edges n (node .there) e (inside node (read .here)) .successors b l);
             entries = λ v k. assigned-there _ r v k;
           };
     })
 
-    pub records-fit : getD firsts c 0 + branches ≤ fieldLimit
-    records-fit = omega (arith, first-is, branches-are, records-small (node .model) _ command-there)
+    pub records-fit : first + branches ≤ fieldLimit
+    records-fit = omega (arith, first-is, branches-are, records-small (node .model) _ (command-there node (read .here)))
 
     -- Where the code found no branch that does not follow, the edge follows, as far as the flags tell; else it does not, and
     -- if the edges before it do, the code has the branch's record and the second place.
     module _ (known : List ℕ) {state : List ℤ} (stated : StateSettled m g n state)
-        {vars : ℕ} {bs nb : List ℕ} (held : Held m g vars bs nb) {b : ℕ} (q : b ≡ firstBad (branchAt vars nb bs known state eb (getD firsts c 0) p) branches) where
+        {vars : ℕ} {bs nb : List ℕ} (held : Held m g vars bs nb) {b : ℕ} (q : b ≡ firstBad (branchAt vars nb bs known state eb first at) branches) where
       abbrev tells : ℕ → ℕ → ℕ → Bool
       tells = flagsOf m g known state
 
@@ -190,7 +196,7 @@ module _ {m g : List ℕ} {n : ℕ} {cs eb : List ℕ} {edges e p c branches : �
       worst = firstBad follow count
 
       first-bad : b ≡ worst
-      first-bad = q ∙ rw (first-is, branches-are, held .variables, held .records-in, held .nodes-in, read .edges-in, read .stands) (branch-first known node stated e command-there)
+      first-bad = q ∙ rw (first-is, branches-are, held .variables, held .records-in, held .nodes-in, read .here .edges-in, read .same, read .here .stands) (branch-first known node stated e (command-there node (read .here)))
 
       pub edge-passes : branches ≤ b → true ≡ edgeBy (modelOf m) (simulationOf (modelOf m) g) n tells e
       unfolding edgeBy
@@ -200,11 +206,11 @@ module _ {m g : List ℕ} {n : ℕ} {cs eb : List ℕ} {edges e p c branches : �
       unfolding edgeBy
       edge-breaks l = sym (ne-eqb worst count (λ h. omega (arith, first-bad, branches-are)))
 
-      module _ (l : b < branches) (h : e ≡ badEdgeBy (modelOf m) (simulationOf (modelOf m) g) n tells) {r : ℕ} (k : r ≡ getD firsts c 0 + b) where
+      module _ (l : b < branches) (h : e ≡ badEdgeBy (modelOf m) (simulationOf (modelOf m) g) n tells) {r : ℕ} (k : r ≡ first + b) where
         pub branch-found : r ≡ badRecordBy (modelOf m) (simulationOf (modelOf m) g) n tells
         branch-found = k ∙ rw first-is (rw (first-bad, h) refl)
 
         pub second-found : {s v : ℕ} → s ≡ u16 eb (p + 2 + 2 * b) → v ≡ apartBy vars nb bs known state r s → v ≡ secondBy (modelOf m) (simulationOf (modelOf m) g) n tells
         second-found i j =
-            let a = branch-apart known node stated e command-there b (omega (arith, branches-are)) in
-            j ∙ rw (k, i, first-is, held .variables, held .records-in, held .nodes-in, read .edges-in, read .stands) (a ∙ rw (first-bad, h) refl)
+            let a = branch-apart known node stated e (command-there node (read .here)) b (omega (arith, branches-are)) in
+            j ∙ rw (k, i, first-is, held .variables, held .records-in, held .nodes-in, read .here .edges-in, read .here .stands) (a ∙ rw (first-bad, h) refl)

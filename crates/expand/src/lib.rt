@@ -24,7 +24,7 @@ ghost use Rattle.model.specs.Limits.{mostVariables, mostExpressions, mostComman
 ghost use Rattle.model.specs.Layout.{branchSize};
 ghost use Rattle.model.specs.Model.{modelOf};
 ghost use Rattle.model.specs.Valid.{Valid};
-ghost use Rattle.graph.specs.Simulation.{nodeSize, nodeField, simulationOf};
+ghost use Rattle.graph.specs.Simulation.{nodeSize, nodeField, commandIn, simulationOf};
 ghost use Rattle.graph.specs.Labels.{truthOf, readingOf};
 ghost use Rattle.graph.specs.Rules.{A1, A2, sameEdges, B1, edgesFollow, B2};
 ghost use Rattle.graph.specs.Seconds.{openGuard, second19, second21};
@@ -528,6 +528,22 @@ struct Edge {
     branches: usize,
 }
 
+// The edge that stands at p.
+fn edge_at(cs: &[u8], eb: &[u8], firsts: &[usize], p: usize) -> Edge
+    requires { ⌜ p < 2 ^ 40 ⌝ }
+    requires { ⌜ commandIn (now eb) p < length (now firsts) ⌝ }
+    ensures { λ r. ⌜ (r .at ≡ p) × (r .first ≡ getD (now (firsts .entry)) (commandIn (now (eb .entry)) p) 0) × (r .branches ≡ field 4 (now (cs .entry)) (commandIn (now (eb .entry)) p) 1) × (r .branches < fieldLimit) ⌝ }
+{
+    let c = folder::u16_at(eb, p);
+    let first = firsts[c];
+    let branches = folder::field(4, cs, c, 1);
+    Edge {
+        at: p,
+        first,
+        branches,
+    }
+}
+
 // The first branch of an edge that does not follow; their count if each does.
 fn first_bad_branch(
     vars: usize,
@@ -575,19 +591,19 @@ struct Walk {
     branch: usize,
 }
 
-// Each edge of node n from `edge` on, which stands at `at`; those before follow.
+// Each edge of node n from number `from` on, which stands at `at`; those before follow.
 fn edges_follow(
     m: &[u8],
     g: &[u8],
     n: usize,
-    edge: usize,
+    from: usize,
     at: usize,
     firsts: &[usize],
     known: &[u8],
     state: &[i64],
 ) -> Walk
     requires { ⌜ NodeOf (now m) (now g) n ⌝ }
-    requires { ⌜ FollowedTo (now m) (now g) n (flagsOf (now m) (now g) (now known) (now state)) edge at ⌝ }
+    requires { ⌜ FollowedTo (now m) (now g) n (flagsOf (now m) (now g) (now known) (now state)) from at ⌝ }
     requires { ⌜ FirstsOf (now m) (now firsts) ⌝ }
     requires { ⌜ StateSettled (now m) (now g) n (now state) ⌝ }
     requires { ⌜ RowsLong (now known) (now state) ⌝ }
@@ -603,20 +619,13 @@ fn edges_follow(
     let eb = folder::body(g, 1);
     let edges = node_field(m, g, n, 4);
     let mut p = at;
-    let mut e = edge;
+    let mut e = from;
     while e < edges {
-        let c = folder::u16_at(eb, p);
-        let branches = folder::field(4, cs, c, 1);
-        let first = firsts[c];
-        let branching = Edge {
-            at: p,
-            first,
-            branches,
-        };
-        let b = first_bad_branch(vars, nb, bs, known, state, eb, branching);
-        if b < branches {
+        let edge = edge_at(cs, eb, firsts, p);
+        let b = first_bad_branch(vars, nb, bs, known, state, eb, edge);
+        if b < edge.branches {
             let s = folder::u16_at(eb, p + 2 + 2 * b);
-            let branch = first + b;
+            let branch = edge.first + b;
             let second = apart_by(vars, nb, bs, known, state, branch, s);
             return Walk {
                 holds: false,
@@ -626,7 +635,7 @@ fn edges_follow(
                 branch,
             };
         }
-        p += 2 + 2 * branches;
+        p += 2 + 2 * edge.branches;
         e += 1;
     }
     Walk {
