@@ -581,6 +581,16 @@ pub struct Followed {
     pub second: usize,
 }
 
+fn verdict(holds: bool, next: usize, second: usize) -> Followed
+    ensures { λ r. ⌜ (r .holds ≡ holds) × (r .next ≡ next) × (r .second ≡ second) ⌝ }
+{
+    Followed {
+        holds,
+        next,
+        second,
+    }
+}
+
 // The same as far as the flags tell; where it does not hold, `next` is where the edge stands that does not follow, with its
 // number and the record of its branch.
 struct Walk {
@@ -685,26 +695,14 @@ fn edges_asked(
     loop {
         let walk = edges_follow(m, g, n, edge, p, firsts, known, state);
         if walk.holds {
-            return Followed {
-                holds: true,
-                next: walk.next,
-                second: 0,
-            };
+            return verdict(true, walk.next, 0);
         }
         let e = open_entry(m, known, walk.branch, walk.second);
         if e == MOST_EXPRESSIONS {
-            return Followed {
-                holds: false,
-                next: at,
-                second: walk.second,
-            };
+            return verdict(false, at, walk.second);
         }
         if !ask(m, g, n, masks, state, e, known) {
-            return Followed {
-                holds: false,
-                next: at,
-                second: walk.second,
-            };
+            return verdict(false, at, walk.second);
         }
         edge = walk.edge;
         p = walk.next;
@@ -730,10 +728,6 @@ pub fn b2(
     if node_field(m, g, n, 0) == EXPANDED {
         edges_asked(m, g, n, at, firsts, masks, state, known)
     } else {
-        Followed {
-            holds: true,
-            next: at,
-            second: 0,
-        }
+        verdict(true, at, 0)
     }
 }

@@ -27,13 +27,14 @@ edges-follow-requires c κs =
     (s .0 .node, (c .before .loop .inv .2, (s .1 .1, (a .read .stated, (a .read .known-long, a .read .state-long)))))
 
 same-length : tie.Need-same-length Inv-loop μ-loop
-same-length c = c .before .before .before .loop .inv .1
+same-length c = c .before .before .before .before .loop .inv .1
 
 returns : tie.Need-returns Inv-loop μ-loop
 returns c =
-    let s = c .before .before .before .before .before .before .before .before .before .pre in
-    let a = read-again (s .0) (c .before .before .before .loop .inv .0) (c .before .before .before .loop .inv .1) in
-    (all-follow (a .node) (a .kept) (a .read) (c .before .edges-follow .ensures .0) (c .if1 .taken), (λ h. c .before .edges-follow .ensures .1 .0 (c .if1 .taken)), λ h. absurd (false≢true (sym h)))
+    let s = c .before .before .before .before .before .before .before .before .before .before .pre in
+    let a = read-again (s .0) (c .before .before .before .before .loop .inv .0) (c .before .before .before .before .loop .inv .1) in
+    let v = c .verdict .ensures in
+    (v .0 ∙ all-follow (a .node) (a .kept) (a .read) (c .before .before .edges-follow .ensures .0) (c .before .if1 .taken), (λ h. v .1 ∙ c .before .before .edges-follow .ensures .1 .0 (c .before .if1 .taken)), λ h. absurd (false≢true (sym h ∙ v .0)))
 
 open-entry-requires : tie.Need-open-entry-requires Inv-loop μ-loop
 open-entry-requires c κs =
@@ -42,15 +43,16 @@ open-entry-requires c κs =
     (s .0 .node .model, record-small (a .node) (a .kept) (a .read) (c .before .before .edges-follow .ensures .0) (c .before .if1 .left) (c .before .before .edges-follow .ensures .1 .1 .0 (c .before .if1 .left) .1))
 
 same-length-2 : tie.Need-same-length-2 Inv-loop μ-loop
-same-length-2 c = c .before .before .before .before .before .before .loop .inv .1
+same-length-2 c = c .before .before .before .before .before .before .before .loop .inv .1
 
 returns-2 : tie.Need-returns-2 Inv-loop μ-loop
 returns-2 c =
-    let s = c .before .before .before .before .before .before .before .before .before .before .before .before .pre in
-    let a = read-again (s .0) (c .before .before .before .before .before .before .loop .inv .0) (c .before .before .before .before .before .before .loop .inv .1) in
-    let w = c .before .before .before .before .edges-follow .ensures .1 .1 .0 (c .before .before .before .if1 .left) in
-    let u = none-open (a .node) (a .kept) (a .read) (c .before .before .before .before .edges-follow .ensures .0) (c .before .before .before .if1 .left) (w .1) (w .0) (c .before .open-entry .ensures) (c .if2 .taken) in
-    (not-all-follow (a .node) (a .kept) (a .read) (c .before .before .before .before .edges-follow .ensures .0) (c .before .before .before .if1 .left) u, (λ h. absurd (false≢true h)), λ h. second-is (a .node) (a .kept) (a .read) (c .before .before .before .before .edges-follow .ensures .0) (c .before .before .before .if1 .left) u (w .0))
+    let s = c .before .before .before .before .before .before .before .before .before .before .before .before .before .pre in
+    let a = read-again (s .0) (c .before .before .before .before .before .before .before .loop .inv .0) (c .before .before .before .before .before .before .before .loop .inv .1) in
+    let w = c .before .before .before .before .before .edges-follow .ensures .1 .1 .0 (c .before .before .before .before .if1 .left) in
+    let u = none-open (a .node) (a .kept) (a .read) (c .before .before .before .before .before .edges-follow .ensures .0) (c .before .before .before .before .if1 .left) (w .1) (w .0) (c .before .before .open-entry .ensures) (c .before .if2 .taken) in
+    let v = c .verdict2 .ensures in
+    (v .0 ∙ not-all-follow (a .node) (a .kept) (a .read) (c .before .before .before .before .before .edges-follow .ensures .0) (c .before .before .before .before .if1 .left) u, (λ h. absurd (false≢true (sym (v .0) ∙ h))), λ h. v .2 ∙ second-is (a .node) (a .kept) (a .read) (c .before .before .before .before .before .edges-follow .ensures .0) (c .before .before .before .before .if1 .left) u (w .0))
 
 ask-requires : tie.Need-ask-requires Inv-loop μ-loop
 ask-requires c κs =
@@ -60,16 +62,17 @@ ask-requires c κs =
     (a, one-open (a .node) (a .kept) (a .read) (c .before .before .before .before .before .edges-follow .ensures .0) (c .before .before .before .before .if1 .left) (w .1) (w .0) (c .before .before .open-entry .ensures) (c .before .if2 .left) .0)
 
 same-length-3 : tie.Need-same-length-3 Inv-loop μ-loop
-same-length-3 c = c .before .before .known .given ∙ c .before .before .before .before .before .before .before .before .before .before .before .loop .inv .1
+same-length-3 c = c .before .before .before .known .given ∙ c .before .before .before .before .before .before .before .before .before .before .before .before .loop .inv .1
 
 returns-3 : tie.Need-returns-3 Inv-loop μ-loop
 returns-3 c =
-    let s = c .before .before .before .before .before .before .before .before .before .before .before .before .before .before .before .before .before .pre in
-    let a = read-again (s .0) (c .before .before .before .before .before .before .before .before .before .before .before .loop .inv .0) (c .before .before .before .before .before .before .before .before .before .before .before .loop .inv .1) in
-    let w = c .before .before .before .before .before .before .before .before .before .edges-follow .ensures .1 .1 .0 (c .before .before .before .before .before .before .before .before .if1 .left) in
-    let o = one-open (a .node) (a .kept) (a .read) (c .before .before .before .before .before .before .before .before .before .edges-follow .ensures .0) (c .before .before .before .before .before .before .before .before .if1 .left) (w .1) (w .0) (c .before .before .before .before .before .before .open-entry .ensures) (c .before .before .before .before .before .if2 .left) in
-    let u = stays-unknown (a .node) (a .kept) (a .read) (c .before .before .before .before .before .before .before .before .before .edges-follow .ensures .0) (c .before .before .before .before .before .before .before .before .if1 .left) (o .2) (c .before .before .before .ask .ensures .0) (c .before .before .before .ask .ensures .1) (not-true _ (c .if3 .taken)) in
-    (not-all-follow (a .node) (a .kept) (a .read) (c .before .before .before .before .before .before .before .before .before .edges-follow .ensures .0) (c .before .before .before .before .before .before .before .before .if1 .left) u, (λ h. absurd (false≢true h)), λ h. second-is (a .node) (a .kept) (a .read) (c .before .before .before .before .before .before .before .before .before .edges-follow .ensures .0) (c .before .before .before .before .before .before .before .before .if1 .left) u (w .0))
+    let s = c .before .before .before .before .before .before .before .before .before .before .before .before .before .before .before .before .before .before .pre in
+    let a = read-again (s .0) (c .before .before .before .before .before .before .before .before .before .before .before .before .loop .inv .0) (c .before .before .before .before .before .before .before .before .before .before .before .before .loop .inv .1) in
+    let w = c .before .before .before .before .before .before .before .before .before .before .edges-follow .ensures .1 .1 .0 (c .before .before .before .before .before .before .before .before .before .if1 .left) in
+    let o = one-open (a .node) (a .kept) (a .read) (c .before .before .before .before .before .before .before .before .before .before .edges-follow .ensures .0) (c .before .before .before .before .before .before .before .before .before .if1 .left) (w .1) (w .0) (c .before .before .before .before .before .before .before .open-entry .ensures) (c .before .before .before .before .before .before .if2 .left) in
+    let u = stays-unknown (a .node) (a .kept) (a .read) (c .before .before .before .before .before .before .before .before .before .before .edges-follow .ensures .0) (c .before .before .before .before .before .before .before .before .before .if1 .left) (o .2) (c .before .before .before .before .ask .ensures .0) (c .before .before .before .before .ask .ensures .1) (not-true _ (c .before .if3 .taken)) in
+    let v = c .verdict3 .ensures in
+    (v .0 ∙ not-all-follow (a .node) (a .kept) (a .read) (c .before .before .before .before .before .before .before .before .before .before .edges-follow .ensures .0) (c .before .before .before .before .before .before .before .before .before .if1 .left) u, (λ h. absurd (false≢true (sym (v .0) ∙ h))), λ h. v .2 ∙ second-is (a .node) (a .kept) (a .read) (c .before .before .before .before .before .before .before .before .before .before .edges-follow .ensures .0) (c .before .before .before .before .before .before .before .before .before .if1 .left) u (w .0))
 
 loop-less : tie.Need-loop-less Inv-loop μ-loop
 loop-less c =
@@ -90,12 +93,15 @@ edges-asked-spec =
     μ-loop
     loop-holds
     edges-follow-requires
+    (λ c κs. search needs)
     same-length
     returns
     open-entry-requires
+    (λ c κs. search needs)
     same-length-2
     returns-2
     ask-requires
+    (λ c κs. search needs)
     same-length-3
     returns-3
     loop-less
