@@ -26,7 +26,7 @@ ghost use Rattle.model.specs.Model.{modelOf};
 ghost use Rattle.model.specs.Valid.{Valid};
 ghost use Rattle.graph.specs.Simulation.{nodeSize, nodeField, commandIn, simulationOf};
 ghost use Rattle.graph.specs.Labels.{truthOf, readingOf};
-ghost use Rattle.graph.specs.Rules.{A1, A2, sameEdges, B1, edgesFollow, B2};
+ghost use Rattle.graph.specs.Rules.{A1, A2, sameEdges, B1, B2};
 ghost use Rattle.graph.specs.Seconds.{openGuard, second19, second21};
 ghost use Rattle.graph.specs.Walks.{startsAt};
 ghost use Rattle.expand.specs.Node.{NodeOf, LabelFlagged, LabelWidened, FlaggedSettled, StateSettled, Askable, GuardsSettled, FirstsOf, MasksOf, RowsLong};
@@ -674,8 +674,9 @@ fn open_entry(m: &[u8], known: &[u8], r: usize, v: usize) -> usize
     MOST_EXPRESSIONS
 }
 
-// What the flags leave open is asked, one entry after the other, until all edges follow or one does not for good.
-fn edges_asked(
+// Row 21. A node that is not expanded has no edges. What the flags leave open is asked, one entry after the other, until all
+// edges follow or one does not for good.
+pub fn b2(
     m: &[u8],
     g: &[u8],
     n: usize,
@@ -688,8 +689,11 @@ fn edges_asked(
     requires { ⌜ Askable (now m) (now g) n (now masks) (now known) (now state) ⌝ }
     requires { ⌜ at ≡ startsAt (modelOf (now m)) (now g) n ⌝ }
     requires { ⌜ FirstsOf (now m) (now firsts) ⌝ }
-    ensures { λ r. ⌜ (r .holds ≡ edgesFollow (modelOf (now (m .entry))) (simulationOf (modelOf (now (m .entry))) (now (g .entry))) n) × (r .holds ≡ true → r .next ≡ startsAt (modelOf (now (m .entry))) (now (g .entry)) (n + 1)) × (r .holds ≡ false → r .second ≡ second21 (modelOf (now (m .entry))) (simulationOf (modelOf (now (m .entry))) (now (g .entry))) n) ⌝ }
+    ensures { λ r. ⌜ (r .holds ≡ B2 (modelOf (now (m .entry))) (simulationOf (modelOf (now (m .entry))) (now (g .entry))) n) × (r .holds ≡ true → r .next ≡ startsAt (modelOf (now (m .entry))) (now (g .entry)) (n + 1)) × (r .holds ≡ false → r .second ≡ second21 (modelOf (now (m .entry))) (simulationOf (modelOf (now (m .entry))) (now (g .entry))) n) ⌝ }
 {
+    if node_field(m, g, n, 0) != EXPANDED {
+        return verdict(true, at, 0);
+    }
     let mut edge = 0;
     let mut p = at;
     loop {
@@ -706,28 +710,5 @@ fn edges_asked(
         }
         edge = walk.edge;
         p = walk.next;
-    }
-}
-
-// Row 21. A node that is not expanded has no edges.
-pub fn b2(
-    m: &[u8],
-    g: &[u8],
-    n: usize,
-    at: usize,
-    firsts: &[usize],
-    masks: &[u16],
-    state: &[i64],
-    known: &mut [u8],
-) -> Followed
-    requires { ⌜ Askable (now m) (now g) n (now masks) (now known) (now state) ⌝ }
-    requires { ⌜ at ≡ startsAt (modelOf (now m)) (now g) n ⌝ }
-    requires { ⌜ FirstsOf (now m) (now firsts) ⌝ }
-    ensures { λ r. ⌜ (r .holds ≡ B2 (modelOf (now (m .entry))) (simulationOf (modelOf (now (m .entry))) (now (g .entry))) n) × (r .holds ≡ true → r .next ≡ startsAt (modelOf (now (m .entry))) (now (g .entry)) (n + 1)) × (r .holds ≡ false → r .second ≡ second21 (modelOf (now (m .entry))) (simulationOf (modelOf (now (m .entry))) (now (g .entry))) n) ⌝ }
-{
-    if node_field(m, g, n, 0) == EXPANDED {
-        edges_asked(m, g, n, at, firsts, masks, state, known)
-    } else {
-        verdict(true, at, 0)
     }
 }
