@@ -14,3 +14,4 @@ pub mod Widths
 pub mod Digits
 pub mod Combinations
 pub mod States
+pub mod Relabel

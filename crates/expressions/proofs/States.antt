@@ -43,6 +43,11 @@ picked : (b : Bool) (a z : ℤ) → pick b (Known a) Open ≡ Known z → (b ≡
 picked true a z e = (refl, cc)
 picked false a z e = absurd (let k : _≡_ {A = ℕ} 0 1 = cc in omega arith)
 
+-- What a truth that reads known is.
+pub said : (b : Bool) {c : Truth} {d : Bool} → SaysT c d → c ≡ knownTruth b → d ≡ b
+said true s q = true-is s q
+said false s q = false-is s q
+
 known-same : (a b : Bool) → knownTruth a ≡ knownTruth b → a ≡ b
 known-same true true e = refl
 known-same true false e = absurd (let k : _≡_ {A = ℕ} 0 1 = cc in omega arith)
@@ -122,10 +127,6 @@ module _ (x : Entries) (L : Label) (P : Proper L) (e : ℕ) where
 
   pub three-way-number : (z : ℤ) → readNumber x look e ≡ Known z → numberByAll x L e ≡ Known z
   three-way-number z k = known-number z (λ s h. known-is z (number-sound x look s (look-says s h) e) k)
-
-  said : (b : Bool) {c : Truth} {d : Bool} → SaysT c d → c ≡ knownTruth b → d ≡ b
-  said true s q = true-is s q
-  said false s q = false-is s q
 
   pub three-way-truth : (b : Bool) → readTruth x look e ≡ knownTruth b → truthByAll x L e ≡ knownTruth b
   three-way-truth b k = known-truth b (λ s h. said b (truth-sound x look s (look-says s h) e) k)

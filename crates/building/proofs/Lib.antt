@@ -1,0 +1,14 @@
+pub mod FirstLaws
+pub mod OffspringLaws
+pub mod SetLaws
+pub mod ReadLaws
+pub mod Keeping
+pub mod Aptness
+pub mod Falling
+pub mod Ending
+pub mod Ruled
+pub mod ValueLaws
+pub mod Built
+pub mod Nearness
+pub mod Lengths
+pub mod Short

@@ -1,0 +1,9 @@
+pub mod First
+pub mod Building
+pub mod Length
+pub mod Moves
+pub mod Values
+pub mod Built
+pub mod Kept
+pub mod Measure
+pub mod Near
