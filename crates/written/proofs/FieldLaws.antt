@@ -1,0 +1,110 @@
+-- Fields written and read back; lists one after the other.
+-- Assumes nothing.
+use Prim.Native.Nat.{ℕ, zero, suc, _+_, _-_, _*_, _/_, _%_, _<_, _≤_}
+use mathlib.Core.Path.{_≡_, refl, ap, _∙_}
+use mathlib.Core.Logic.{_⊎_, inl, inr}
+use mathlib.Core.List.{List, [], _∷_, _++_}
+use native.Mathlib.Nat.{eq-or-lt-of-le, le-of-suc-le-suc, not-suc-le-zero, div-add-mod', mod-eq-of-lt, mod-lt, div-lt-iff-lt-mul}
+use native.Mathlib.Omega.{arith}
+use lib.ListN.{length, getD, length-append, List·getD-append}
+use lib.Seq.{getD-append-add}
+use borrow.Author.Tests.{lt-ltb, le-ltb}
+use lib.Dec.{leb→le}
+use lib.IntN.{ℤ, pos, negsuc}
+use lib.Signed.{_≤ℤ_}
+use Rattle.folder.specs.Fields.{fieldLimit, field4Limit, halfLimit, u16, signed16}
+use Rattle.expressions.specs.Limits.{farthestBound}
+use Rattle.model.specs.Limits.{leastBound, mostBound}
+use Rattle.model.specs.Pedal.{fields}
+use Rattle.written.specs.Bytes.{unsigned, chain}
+
+-- ---- one field
+pub two-back : (n : ℕ) → n < fieldLimit → n % 256 + n / 256 % 256 * 256 ≡ n
+two-back n l =
+    let h : n / 256 < 256 = div-lt-iff-lt-mul {k = 256} {x = n} {y = 256} (omega arith) .1 (omega arith) in
+    let e : n / 256 % 256 ≡ n / 256 = mod-eq-of-lt h in
+    rw e (omega (arith, div-add-mod' n 256))
+
+-- ---- the fields of a body
+double : (k : ℕ) → 2 * suc k ≡ suc (suc (2 * k))
+double k = omega arith
+
+pub length-fields : (l : List ℕ) → length (fields l) ≡ 2 * length l
+length-fields [] = refl
+length-fields (x ∷ xs) = rw (double (length xs)) (ap (λ (n : ℕ). suc (suc n)) (length-fields xs))
+
+u16-past : (a b : ℕ) (s : List ℕ) (k : ℕ) → u16 (a ∷ b ∷ s) (suc (suc k)) ≡ u16 s k
+unfolding u16
+u16-past a b s k = let e : suc (suc k) + 1 ≡ suc (suc (k + 1)) = omega arith in rw e
+
+pub u16-fields : (l : List ℕ) (k : ℕ) → getD l k 0 < fieldLimit → u16 (fields l) (2 * k) ≡ getD l k 0
+unfolding u16
+u16-fields [] k h = refl
+u16-fields (x ∷ xs) zero h = two-back x h
+u16-fields (x ∷ xs) (suc k) h = ap (u16 (fields (x ∷ xs))) (double k) ∙ u16-past (x % 256) (x / 256 % 256) (fields xs) (2 * k) ∙ u16-fields xs k h
+
+-- ---- lists one after the other
+module _ (f : ℕ → List ℕ) where
+  pub chain-within : (n i : ℕ) → i < n → length (chain i f) + length (f i) ≤ length (chain n f)
+  unfolding chain
+  chain-within zero i l = absurd (not-suc-le-zero l)
+  chain-within (suc n) i l = go (λ m. chain-within n i m) (eq-or-lt-of-le (le-of-suc-le-suc l))
+    where
+      go : (i < n → length (chain i f) + length (f i) ≤ length (chain n f)) → (i ≡ n) ⊎ (i < n) → length (chain i f) + length (f i) ≤ length (chain n f ++ f n)
+      go below (inl q) = rw (q, length-append) (omega arith)
+      go below (inr m) = rw length-append (omega (arith, below m))
+
+  pub chain-at : (n i j : ℕ) → i < n → j < length (f i) → getD (chain n f) (length (chain i f) + j) 0 ≡ getD (f i) j 0
+  unfolding chain
+  chain-at zero i j l h = absurd (not-suc-le-zero l)
+  chain-at (suc n) i j l h = go (λ m. chain-at n i j m h) (eq-or-lt-of-le (le-of-suc-le-suc l))
+    where
+      go : (i < n → getD (chain n f) (length (chain i f) + j) 0 ≡ getD (f i) j 0) → (i ≡ n) ⊎ (i < n) → getD (chain n f ++ f n) (length (chain i f) + j) 0 ≡ getD (f i) j 0
+      go below (inl q) = rw q (getD-append-add (chain n f) (f n) j 0)
+      go below (inr m) = List·getD-append (chain n f) (f n) 0 (length (chain i f) + j) (omega (arith, chain-within n i m)) ∙ below m
+
+  pub chain-suc : (n : ℕ) → length (chain (suc n) f) ≡ length (chain n f) + length (f n)
+  unfolding chain
+  chain-suc n = length-append (chain n f) (f n)
+
+  pub chain-wide : (w n : ℕ) → ((i : ℕ) → length (f i) ≡ w) → length (chain n f) ≡ w * n
+  unfolding chain
+  chain-wide w zero h = omega arith
+  chain-wide w (suc n) h = rw length-append (omega (arith, chain-wide w n h, h n))
+
+-- ---- a value of two fields, and the contents' entries
+pub word-back : (n : ℕ) → n % fieldLimit + n / fieldLimit * fieldLimit ≡ n
+word-back n = omega (arith, div-add-mod' n fieldLimit)
+
+pub high-small : (n : ℕ) → n < field4Limit → n / fieldLimit < fieldLimit
+high-small n l = div-lt-iff-lt-mul {k = fieldLimit} {x = n} {y = fieldLimit} (omega arith) .1 (omega arith)
+
+pub four-back : (n : ℕ) → n < field4Limit
+    → (n % fieldLimit % 256 + n % fieldLimit / 256 % 256 * 256) + (n / fieldLimit % 256 + n / fieldLimit / 256 % 256 * 256) * fieldLimit ≡ n
+four-back n l =
+    let low : n % fieldLimit < fieldLimit = mod-lt n (omega arith) in
+    rw (two-back (n % fieldLimit) low, two-back (n / fieldLimit) (high-small n l)) (word-back n)
+
+-- ---- signed values
+signed-low : (n : ℕ) → n < halfLimit → signed16 n ≡ pos n
+unfolding signed16
+signed-low n l = rw (lt-ltb n halfLimit l)
+
+signed-high : (n : ℕ) → n < halfLimit → signed16 (fieldLimit - suc n) ≡ negsuc n
+unfolding signed16
+signed-high n l =
+    let e : fieldLimit - suc (fieldLimit - suc n) ≡ n = omega arith in
+    rw (le-ltb (fieldLimit - suc n) halfLimit (omega arith), lt-ltb (fieldLimit - suc n) fieldLimit (omega arith)) (ap negsuc e)
+
+-- A value in a model's bounds fits a field.
+pub record Fits (z : ℤ) : Type 0 where
+  pub low : leastBound ≤ℤ z
+  pub high : z ≤ℤ mostBound
+
+pub unsigned-small : (z : ℤ) → Fits z → unsigned z < fieldLimit
+unsigned-small (pos n) f = let h : n ≤ farthestBound = leb→le n farthestBound (f .high .le) in omega arith
+unsigned-small (negsuc n) f = omega arith
+
+pub signed-back : (z : ℤ) → Fits z → signed16 (unsigned z) ≡ z
+signed-back (pos n) f = let h : n ≤ farthestBound = leb→le n farthestBound (f .high .le) in signed-low n (omega arith)
+signed-back (negsuc n) f = let h : n ≤ farthestBound - 1 = leb→le n (farthestBound - 1) (f .low .le) in signed-high n (omega arith)

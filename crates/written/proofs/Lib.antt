@@ -1,0 +1,9 @@
+pub mod FieldLaws
+pub mod FolderLaws
+pub mod ReadBack
+pub mod Transfer
+pub mod LengthLaws
+pub mod Counted
+pub mod Accepted
+pub mod Figures
+pub mod Pedal
