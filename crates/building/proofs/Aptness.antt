@@ -35,7 +35,7 @@ waits-is Kind.expanded n i e = nothing e
 waits-is Kind.covered n i e = nothing e
 waits-is Kind.target n i e = nothing e
 
-module _ (M : Model) (P : Limit) (X : ModelRight M) (B : Building) (K : Kept M P B) where
+module _ (M : Model) (P : Limit) (X : ModelRight M) (B : Building) (K : Kept M (P .most) B) where
   abbrev Wants : ℕ → ℕ → Type 0
   Wants n v = (v < M .variables) × (hasBit (B .tracked n) v ≡ false)
 

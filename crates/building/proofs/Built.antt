@@ -18,7 +18,7 @@ module _ (M : Model) (X : ModelRight M) (P : Limit) (some : 1 ≤ P .most) where
   abbrev B : Building
   B = built M P
 
-  K : Kept M P B
+  K : Kept M (P .most) B
   K = built-kept M P X some
 
   F : Mended M B

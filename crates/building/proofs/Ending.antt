@@ -34,23 +34,23 @@ module _ (M : Model) (P : Limit) where
   stays (suc k) B e = ap (after M P k) (advance-none B e) ∙ stays k B e
 
   module _ (X : ModelRight M) where
-    advance-by : (B : Building) → Kept M P B → (o : Option Move) → nextMove M P B ≡ o → Kept M P (moved M o B)
+    advance-by : (B : Building) → Kept M (P .most) B → (o : Option Move) → nextMove M P B ≡ o → Kept M (P .most) (moved M o B)
     advance-by B K none e = K
     advance-by B K (some m) e = kept M P X B K m (next-apt M P X B K m e)
 
-    pub advance-kept : (B : Building) → Kept M P B → Kept M P (advance M P B)
+    pub advance-kept : (B : Building) → Kept M (P .most) B → Kept M (P .most) (advance M P B)
     unfolding advance
     advance-kept B K = advance-by B K (nextMove M P B) refl
 
-    pub after-kept : (k : ℕ) (B : Building) → Kept M P B → Kept M P (after M P k B)
+    pub after-kept : (k : ℕ) (B : Building) → Kept M (P .most) B → Kept M (P .most) (after M P k B)
     unfolding after
     after-kept zero B K = K
     after-kept (suc k) B K = after-kept k (advance M P B) (advance-kept B K)
 
-    pub advance-falls : (B : Building) → Kept M P B → (m : Move) → nextMove M P B ≡ some m → measure M P (advance M P B) < measure M P B
+    pub advance-falls : (B : Building) → Kept M (P .most) B → (m : Move) → nextMove M P B ≡ some m → measure M P (advance M P B) < measure M P B
     advance-falls B K m e = rw (advance-some B m e) (falls M P B K m (next-apt M P X B K m e))
 
-    pub ends : (k : ℕ) (B : Building) → Kept M P B → measure M P B ≤ k → nextMove M P (after M P k B) ≡ none
+    pub ends : (k : ℕ) (B : Building) → Kept M (P .most) B → measure M P B ≤ k → nextMove M P (after M P k B) ≡ none
     unfolding after
     ends zero B K l = go (nextMove M P B) refl
       where
@@ -64,7 +64,7 @@ module _ (M : Model) (P : Limit) where
         go (some m) e rest = rest (omega (arith, advance-falls B K m e))
 
     module _ (room : 1 ≤ P .most) where
-      pub built-kept : Kept M P (built M P)
+      pub built-kept : Kept M (P .most) (built M P)
       unfolding built
       built-kept = after-kept (measure M P (seed M)) (seed M) (kept-seed M P X room)
 
@@ -103,8 +103,8 @@ module _ (M : Model) (P : Limit) where
   reached-by {B} m r e = subst (Reached M P) (advance-some B m e) (reached-next r)
 
   module _ (X : ModelRight M) (room : 1 ≤ P .most) where
-    pub reached-kept : {B : Building} → Reached M P B → Kept M P B
-    reached-kept r = subst (Kept M P) (r .is) (after-kept X (r .moves) (seed M) (kept-seed M P X room))
+    pub reached-kept : {B : Building} → Reached M P B → Kept M (P .most) B
+    reached-kept r = subst (Kept M (P .most)) (r .is) (after-kept X (r .moves) (seed M) (kept-seed M P X room))
 
     pub reached-built : {B : Building} → Reached M P B → nextMove M P B ≡ none → B ≡ built M P
     unfolding built
@@ -112,7 +112,7 @@ module _ (M : Model) (P : Limit) where
         sym (r .is) ∙ same-end (r .moves) (measure M P (seed M)) (seed M) (ap (nextMove M P) (r .is) ∙ e) (ends X (measure M P (seed M)) (seed M) (kept-seed M P X room) (le-refl _))
 
 -- The rows below the count say what a building is.
-module _ (M : Model) (P : Limit) (B C : Building) (K : Kept M P B) (J : Kept M P C) (e : B .nodes ≡ C .nodes) (below : (n : ℕ) → n < B .nodes → Alike M B C n) where
+module _ (M : Model) (P : Limit) (B C : Building) (K : Kept M (P .most) B) (J : Kept M (P .most) C) (e : B .nodes ≡ C .nodes) (below : (n : ℕ) → n < B .nodes → Alike M B C n) where
   alike : (n : ℕ) → Alike M B C n
   alike n = go (decLt n (B .nodes))
     where

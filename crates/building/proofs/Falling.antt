@@ -119,7 +119,7 @@ module _ (M : Model) (P : Limit) (B C : Building) where
   falls-due h k = omega (arith, mul-le-mul-left (3 * P .most + 1) h)
 
 -- ---- a label grows
-module _ (M : Model) (P : Limit) (B : Building) (K : Kept M P B) (n : ℕ) (l : n < B .nodes) where
+module _ (M : Model) (P : Limit) (B : Building) (K : Kept M (P .most) B) (n : ℕ) (l : n < B .nodes) where
   module _ (t : ℕ) (more : (v : ℕ) → hasBit (B .tracked n) v ≡ true → hasBit t v ≡ true) (v : ℕ) (k : v < M .variables) (p : hasBit (B .tracked n) v ≡ false) (q : hasBit t v ≡ true) where
     abbrev T : Building
     T = tracking n t B
@@ -221,7 +221,7 @@ module _ (M : Model) (P : Limit) (B : Building) (K : Kept M P B) (n : ℕ) (l : 
 
 -- ---- each move
 module _ (M : Model) (P : Limit) where
-  pub falls : (B : Building) → Kept M P B → (m : Move) → Apt M P B m → measure M P (apply M m B) < measure M P B
+  pub falls : (B : Building) → Kept M (P .most) B → (m : Move) → Apt M P B m → measure M P (apply M m B) < measure M P B
   falls B K m (may-track {n = n} {v = v} l k u) =
       falls-tracking M P B K n l (union (B .tracked n) (2 ^ v)) (in-left (B .tracked n) (2 ^ v)) v k u (in-right (B .tracked n) (2 ^ v) v (own-bit v))
   falls B K m (may-adopt {n = n} v l c k t u) =

@@ -45,9 +45,9 @@ isTarget Kind.expanded = false
 isTarget Kind.covered = false
 isTarget Kind.target = true
 
-module _ (M : Model) (P : Limit) (B : Building) (K : Kept M P B) where
+module _ (M : Model) (P : Limit) (B : Building) (K : Kept M (P .most) B) where
   -- ---- node n's label grows
-  kept-tracking : (n : ℕ) → n < B .nodes → (t : ℕ) → t < 2 ^ M .variables → ((v : ℕ) → hasBit (startSet M) v ≡ true → hasBit t v ≡ true) → Kept M P (tracking n t B)
+  kept-tracking : (n : ℕ) → n < B .nodes → (t : ℕ) → t < 2 ^ M .variables → ((v : ℕ) → hasBit (startSet M) v ≡ true → hasBit t v ≡ true) → Kept M (P .most) (tracking n t B)
   kept-tracking n l t small started = record {
     some = K .some;
     few = K .few;
@@ -72,7 +72,7 @@ module _ (M : Model) (P : Limit) (B : Building) (K : Kept M P B) where
     still-under i u = record { there = u .there; opened = still-open i (u .opened) }
 
     kept-becoming : (k ≡ Kind.target → truthIn (M .entries) (B .state n) (M .target) ≡ true) → (k ≡ Kind.expanded → ⊥)
-        → (k ≡ Kind.covered → Under M (B .nodes) (B .kind) c) → Kept M P (becoming n k c B)
+        → (k ≡ Kind.covered → Under M (B .nodes) (B .kind) c) → Kept M (P .most) (becoming n k c B)
     kept-becoming target expanded covered = record {
       some = K .some;
       few = K .few;
@@ -150,7 +150,7 @@ module _ (M : Model) (P : Limit) (B : Building) (K : Kept M P B) where
         go (yes m) (no d) = inr (m, d, sym (put-other n Kind.expanded (B .kind) i d) ∙ sym (kind-old i m) ∙ e)
         go (no g) d = absurd (false≢true (sym h ∙ ap isWaiting (sym e ∙ kind-new i (omega arith))))
 
-    kept-expanding : Kept M P C
+    kept-expanding : Kept M (P .most) C
     kept-expanding = record {
       some = omega (arith, K .some);
       few = room;
@@ -177,7 +177,7 @@ module _ (M : Model) (P : Limit) (B : Building) (K : Kept M P B) where
 
 -- ---- each move
 module _ (M : Model) (P : Limit) (R : ModelRight M) where
-  pub kept : (B : Building) → Kept M P B → (m : Move) → Apt M P B m → Kept M P (apply M m B)
+  pub kept : (B : Building) → Kept M (P .most) B → (m : Move) → Apt M P B m → Kept M (P .most) (apply M m B)
   kept B K m (may-track {n = n} {v = v} l k u) =
       kept-tracking M P B K n l (union (B .tracked n) (2 ^ v)) (union-small (M .variables) (B .tracked n) (2 ^ v) (K .small n l) (pow-lt k)) (λ w s. in-left (B .tracked n) (2 ^ v) w (K .started n l w s))
   kept B K m (may-adopt {n = n} v l c k t u) =
@@ -188,7 +188,7 @@ module _ (M : Model) (P : Limit) (R : ModelRight M) where
   kept B K m (may-reach {n = n} l w t) = kept-becoming M P B K n l (ap isOpen w) Kind.target 0 (λ e. t) (λ e. absurd (false≢true (ap isExpanded e))) (λ e. absurd (false≢true (sym (ap isTarget e))))
   kept B K m (may-expand {n = n} l w t room fits) = kept-expanding M P B K R n l w t room
 
-  pub kept-seed : 1 ≤ P .most → Kept M P (seed M)
+  pub kept-seed : 1 ≤ P .most → Kept M (P .most) (seed M)
   kept-seed l = record {
     some = omega arith;
     few = l;

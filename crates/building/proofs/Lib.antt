@@ -12,3 +12,5 @@ pub mod Built
 pub mod Nearness
 pub mod Lengths
 pub mod Short
+pub mod Growing
+pub mod Working

@@ -85,7 +85,7 @@ module _ (M : Model) (B C : Building) (i : ℕ) (N : Near M B C i) where
   repair-same = ap (repairAs M C i) (N .kind) ∙ repair-as-same (B .kind i) refl
 
 -- ---- what each move leaves alone
-module _ (M : Model) (P : Limit) (B : Building) (K : Kept M P B) (i : ℕ) (l : i < B .nodes) where
+module _ (M : Model) (P : Limit) (B : Building) (K : Kept M (P .most) B) (i : ℕ) (l : i < B .nodes) where
   child-there : B .kind i ≡ Kind.expanded → (c : ℕ) → c < M .commands → enabled M (B .state i) c ≡ true → (b : ℕ) → b < M .branches c → childBy M B i c b < B .child i + births M (B .state i)
   child-there k c h e b q = omega (arith, before-within M (B .state i) (M .commands) c h e)
 

@@ -94,7 +94,7 @@ implied : (a b : Bool) → implies a b ≡ true → a ≡ true → b ≡ true
 implied true b e h = e
 implied false b e h = absurd (false≢true h)
 
-module _ (M : Model) (P : Limit) (B : Building) (K : Kept M P B) (F : Mended M B) (value : ℕ → ℕ) where
+module _ (M : Model) (P : Limit) (B : Building) (K : Kept M (P .most) B) (F : Mended M B) (value : ℕ → ℕ) where
   abbrev G : Simulation
   G = asSimulation M B value
 

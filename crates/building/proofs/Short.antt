@@ -35,11 +35,11 @@ module _ (M : Model) (P : Limit) where
   short-kept B m (may-expand {n = n} l w t room fits) h = rw (length-expanding M B n l w) fits
 
   module _ (X : ModelRight M) where
-    advance-by : (B : Building) → Kept M P B → graphLength M B ≤ P .longest → (o : Option Move) → nextMove M P B ≡ o → graphLength M (moved M o B) ≤ P .longest
+    advance-by : (B : Building) → Kept M (P .most) B → graphLength M B ≤ P .longest → (o : Option Move) → nextMove M P B ≡ o → graphLength M (moved M o B) ≤ P .longest
     advance-by B K h none e = h
     advance-by B K h (some m) e = short-kept B m (next-apt M P X B K m e) h
 
-    after-short : (k : ℕ) (B : Building) → Kept M P B → graphLength M B ≤ P .longest → graphLength M (after M P k B) ≤ P .longest
+    after-short : (k : ℕ) (B : Building) → Kept M (P .most) B → graphLength M B ≤ P .longest → graphLength M (after M P k B) ≤ P .longest
     unfolding after advance
     after-short zero B K h = h
     after-short (suc k) B K h = after-short k (advance M P B) (advance-kept M P X B K) (advance-by B K h (nextMove M P B) refl)

@@ -42,19 +42,19 @@ module _ (M : Model) where
     pub there : cover < nodes
     pub opened : isOpen (kind cover) ≡ true
 
-  module _ (P : Limit) where
-    pub record Kept (B : Building) : Type 0 where
-      pub some : 0 < B .nodes
-      pub few : B .nodes ≤ P .most
-      pub root : B .state 0 ≡ initialState M
-      pub states : (n : ℕ) → n < B .nodes → InRange M (B .state n)
-      pub small : (n : ℕ) → n < B .nodes → B .tracked n < 2 ^ M .variables
-      pub started : (n : ℕ) → n < B .nodes → (v : ℕ) → hasBit (startSet M) v ≡ true → hasBit (B .tracked n) v ≡ true
-      pub targets : (n : ℕ) → n < B .nodes → B .kind n ≡ Kind.target → truthIn (M .entries) (B .state n) (M .target) ≡ true
-      pub parents : (n : ℕ) → n < B .nodes → B .kind n ≡ Kind.expanded → Parent (B .nodes) (B .state) (B .child n) (B .state n)
-      pub covers : (n : ℕ) → n < B .nodes → B .kind n ≡ Kind.covered → Under (B .nodes) (B .kind) (B .cover n)
-      pub past : (n : ℕ) → B .nodes ≤ n → Blank B n
+  pub record Kept (most : ℕ) (B : Building) : Type 0 where
+    pub some : 0 < B .nodes
+    pub few : B .nodes ≤ most
+    pub root : B .state 0 ≡ initialState M
+    pub states : (n : ℕ) → n < B .nodes → InRange M (B .state n)
+    pub small : (n : ℕ) → n < B .nodes → B .tracked n < 2 ^ M .variables
+    pub started : (n : ℕ) → n < B .nodes → (v : ℕ) → hasBit (startSet M) v ≡ true → hasBit (B .tracked n) v ≡ true
+    pub targets : (n : ℕ) → n < B .nodes → B .kind n ≡ Kind.target → truthIn (M .entries) (B .state n) (M .target) ≡ true
+    pub parents : (n : ℕ) → n < B .nodes → B .kind n ≡ Kind.expanded → Parent (B .nodes) (B .state) (B .child n) (B .state n)
+    pub covers : (n : ℕ) → n < B .nodes → B .kind n ≡ Kind.covered → Under (B .nodes) (B .kind) (B .cover n)
+    pub past : (n : ℕ) → B .nodes ≤ n → Blank B n
 
+  module _ (P : Limit) where
     -- A move that may be made.
     pub data Apt (B : Building) : Move → Type 0 where
       may-track : {n v : ℕ} → n < B .nodes → v < M .variables → hasBit (B .tracked n) v ≡ false → Apt B (track n v)

@@ -7,3 +7,4 @@ pub mod Built
 pub mod Kept
 pub mod Measure
 pub mod Near
+pub mod Working

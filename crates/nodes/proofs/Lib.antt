@@ -1,1 +1,3 @@
-
+pub mod NodeLaws
+pub mod Walk
+pub mod BroodLaws

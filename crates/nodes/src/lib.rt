@@ -186,7 +186,7 @@ fn put_node(
     k: usize,
     nb: &mut [u8],
 )
-    requires { ⌜ (vars ≤ mostVariables) × (r ≤ fieldLimit) × (parent < fieldLimit) × (k ≤ fieldLimit) ⌝ }
+    requires { ⌜ (0 < vars) × (vars ≤ mostVariables) × (r ≤ fieldLimit) × (parent < fieldLimit) × (k ≤ fieldLimit) ⌝ }
     requires { ⌜ Whole vars (now nb) k ⌝ }
     requires { ⌜ ResultsFit vars (now bs) (now row) r ⌝ }
     ensures { λ _. ⌜ Node vars (now (bs .entry)) (now (row .entry)) r parent k (newFields vars (now (bs .entry)) (now (row .entry))) (now (nb .entry)) (now (nb .exit)) ⌝ }
@@ -201,7 +201,7 @@ fn put_node(
 
 // The nodes of one command.
 fn put_family(vars: usize, bs: &[u8], row: &[i64], births: Births, nb: &mut [u8])
-    requires { ⌜ (vars ≤ mostVariables) × (births .record + births .count ≤ fieldLimit) × (births .node + births .count ≤ fieldLimit) × (births .parent < fieldLimit) ⌝ }
+    requires { ⌜ (0 < vars) × (vars ≤ mostVariables) × (births .record + births .count ≤ fieldLimit) × (births .node + births .count ≤ fieldLimit) × (births .parent < fieldLimit) ⌝ }
     requires { ⌜ nodeSize vars * (births .node + births .count) ≤ length (now nb) ⌝ }
     requires { ⌜ AllFit vars (now bs) (now row) (births .record) (births .count) ⌝ }
     ensures { λ _. ⌜ Family vars (now (bs .entry)) (now (row .entry)) (births .record) (births .parent) (births .node) (births .count) (now (nb .entry)) (now (nb .exit)) ⌝ }
@@ -228,7 +228,7 @@ pub fn put_children(
     k: usize,
     nb: &mut [u8],
 )
-    requires { ⌜ (vars ≤ mostVariables) × (commands ≤ mostCommands) × (recordsIn (now cs) commands ≤ fieldLimit) × (parent < fieldLimit) ⌝ }
+    requires { ⌜ (0 < vars) × (vars ≤ mostVariables) × (commands ≤ mostCommands) × (recordsIn (now cs) commands ≤ fieldLimit) × (parent < fieldLimit) ⌝ }
     requires { ⌜ k + childrenIn (now cs) (now row) commands ≤ fieldLimit ⌝ }
     requires { ⌜ nodeSize vars * (k + childrenIn (now cs) (now row) commands) ≤ length (now nb) ⌝ }
     requires { ⌜ BroodFits vars (now cs) (now bs) (now row) commands ⌝ }

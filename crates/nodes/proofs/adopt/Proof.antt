@@ -1,43 +1,20 @@
+use Prim.Native.Nat.{ℕ}
+use mathlib.Core.Path.{ap, _∙_}
+use Rattle.expressions.specs.Mentions.{union}
+use Rattle.folder.specs.Contents.{field}
+use Rattle.graph.specs.Simulation.{nodeSize}
+use Rattle.held.specs.Held.{coverField, trackedField, putIn}
 use borrow.Author.Needs.{needs}
 use Rattle.nodes.proofs.adopt.Statement.{statement}
 use Rattle.nodes.proofs.adopt.Tie as tie
-use Rattle.nodes.proofs.adopt.Reads as reads
-use Rattle.nodes.proofs.adopt.Lts as lts
-use Rattle.folder.proofs.field.Reads as field-reads
-use Rattle.graph.proofs.node_size.Reads as node-size-reads
-use Rattle.nodes.proofs.track_all.Reads as track-all-reads
 
--- src/lib.rt:89:9
-node-size-requires : tie.Need-node-size-requires
-node-size-requires c κs = search needs
-
--- src/lib.rt:90:9
-field-requires : tie.Need-field-requires
-field-requires c κs = search needs
-
--- src/lib.rt:91:9
-field-requires-2 : tie.Need-field-requires-2
-field-requires-2 c κs = search needs
-
--- src/lib.rt:92:5
-track-all-requires : tie.Need-track-all-requires
-track-all-requires c κs = search needs
-
--- src/lib.rt:84:1
-same-length : tie.Need-same-length
-same-length c = search needs
-
--- src/lib.rt:84:1
 returns : tie.Need-returns
-returns c = ?
+returns c =
+    let a = c .before .before .before .before .before .before .before .before .before .before .args in
+    let e = c .before .before .before .before .before .before .before .before .node-size .ensures .0 in
+    c .before .before .track-all .ensures
+    ∙ ap (λ (t : ℕ). putIn (a .vars) (a .nb .now) (a .n) trackedField (union (field (nodeSize (a .vars)) (a .nb .now) (a .n) trackedField) t))
+    (c .before .before .before .before .field2 .ensures .0 ∙ (λ i. field (e i) (a .nb .now) ((c .before .before .before .before .before .before .field .ensures .0 ∙ ap (λ (w : ℕ). field w (a .nb .now) (a .n) coverField) e) i) trackedField))
 
 pub adopt-spec : {M : Type 1} → statement M
-adopt-spec =
-    tie.close
-    (tie.spec
-    node-size-requires
-    field-requires
-    field-requires-2
-    track-all-requires
-    same-length
-    returns)
+adopt-spec = tie.close (tie.spec (λ c κs. search needs) (λ c κs. search needs) (λ c κs. search needs) (λ c κs. search needs) (λ c. search needs) returns)

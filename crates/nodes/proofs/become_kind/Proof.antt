@@ -1,25 +1,13 @@
+use mathlib.Core.Path.{ap, _∙_}
+use mathlib.Core.List.{List}
+use Prim.Native.Nat.{ℕ}
+use Rattle.held.specs.Held.{coverField, putIn}
 use borrow.Author.Needs.{needs}
 use Rattle.nodes.proofs.become_kind.Statement.{statement}
 use Rattle.nodes.proofs.become_kind.Tie as tie
-use Rattle.nodes.proofs.become_kind.Reads as reads
-use Rattle.nodes.proofs.become_kind.Lts as lts
-use Rattle.nodes.proofs.put_field.Reads as put-field-reads
 
--- src/lib.rt:101:5
-put-field-requires : tie.Need-put-field-requires
-put-field-requires c κs = search needs
-
--- src/lib.rt:102:5
-put-field-requires-2 : tie.Need-put-field-requires-2
-put-field-requires-2 c κs = search needs
-
--- src/lib.rt:96:1
-same-length : tie.Need-same-length
-same-length c = search needs
-
--- src/lib.rt:96:1
 returns : tie.Need-returns
-returns c = ?
+returns c = c .before .before .put-field2 .ensures ∙ ap (λ (l : List ℕ). putIn (c .before .before .before .before .before .before .before .before .before .args .vars) l (c .before .before .before .before .before .before .before .before .before .args .n) coverField (c .before .before .before .before .before .before .before .before .before .args .cover)) (c .before .before .before .before .before .before .put-field .ensures)
 
 pub become-kind-spec : {M : Type 1} → statement M
-become-kind-spec = tie.close (tie.spec put-field-requires put-field-requires-2 same-length returns)
+become-kind-spec = tie.close (tie.spec (λ c κs. search needs) (λ c κs. search needs) (λ c. search needs) returns)

@@ -1,68 +1,40 @@
+use Prim.Native.Nat.{ℕ, _+_, _-_}
+use mathlib.Core.Path.{_≡_, sym, ap, _∙_, subst}
+use native.Mathlib.Omega.{arith}
+use lib.IntN.{ℤ, pos}
+use lib.ListN.{getD}
+use Rattle.folder.proofs.Signed.{back}
+use Rattle.put.specs.Put.{unsigned, FitsField}
+use Rattle.held.specs.Held.{stateField}
+use Rattle.nodes.specs.Born.{resultOf}
+use Rattle.nodes.proofs.NodeLaws.{value-field, new-parent, new-value, new-blank}
 use borrow.Author.Needs.{needs}
 use Rattle.nodes.proofs.new_field.Statement.{statement}
 use Rattle.nodes.proofs.new_field.Tie as tie
-use Rattle.nodes.proofs.new_field.Reads as reads
-use Rattle.nodes.proofs.new_field.Lts as lts
-use Rattle.evaluate.proofs.value_at.Reads as value-at-reads
-use Rattle.folder.proofs.field.Reads as field-reads
-use Rattle.put.proofs.unsigned_of.Reads as unsigned-of-reads
 
--- src/lib.rt:162:9
 returns : tie.Need-returns
-returns c = ?
+returns c = (new-parent _ _ _ _ _ _ (c .if1 .taken), c .before .before .pre .0 .2)
 
--- src/lib.rt:164:28
-add-if2 : tie.Need-add-if2
-add-if2 c = search needs
-
--- src/lib.rt:165:35
-mul-field : tie.Need-mul-field
-mul-field c = search needs
-
--- src/lib.rt:165:31
-add-field : tie.Need-add-field
-add-field c = search needs
-
--- src/lib.rt:165:57
 sub-field : tie.Need-sub-field
-sub-field c = ?
+sub-field c = value-field (c .before .before .before .args .vars) (c .before .before .before .args .f) (c .if2 .taken) .0
 
--- src/lib.rt:165:52
-add-field-2 : tie.Need-add-field-2
-add-field-2 c = search needs
+-- What the record gives.
+value : (c : tie.After-value-at) → let a = c .before .before .before .before .before .args in c .value-at .result ≡ resultOf (a .vars) (a .bs .now) (a .row .now) (a .r) (a .f - stateField)
+value c = c .value-at .ensures ∙ ap (λ (e : ℕ). getD (c .before .before .before .before .before .args .row .now) e (pos 0)) (c .before .field .ensures .0)
 
--- src/lib.rt:165:13
-field-requires : tie.Need-field-requires
-field-requires c κs = search needs
-
--- src/lib.rt:166:33
-value-at-requires : tie.Need-value-at-requires
-value-at-requires c κs = search needs
-
--- src/lib.rt:166:9
 unsigned-of-requires : tie.Need-unsigned-of-requires
-unsigned-of-requires c κs = ?
+unsigned-of-requires c κs =
+    let h = value-field (c .before .before .before .before .before .args .vars) (c .before .before .before .before .before .args .f) (c .before .before .if2 .taken) in
+    subst (λ (z : ℤ). FitsField z) (sym (back (c .value-at .ok) ∙ value c)) (c .before .before .before .before .before .pre .1 .fits (c .before .before .before .before .before .args .f - stateField) (omega arith))
 
--- src/lib.rt:166:9
 returns-2 : tie.Need-returns-2
-returns-2 c = ?
+returns-2 c = (
+  c .unsigned-of .ensures .0 ∙ ap unsigned (back (c .before .value-at .ok) ∙ value (c .before)) ∙ new-value _ _ _ _ _ _ (c .before .before .before .before .if1 .left) (c .before .before .before .if2 .taken),
+  c .unsigned-of .ensures .1,
+)
 
--- src/lib.rt:156:1
 returns-3 : tie.Need-returns-3
-returns-3 c = ?
+returns-3 c = (new-blank _ _ _ _ _ _ (c .before .if1 .left) (c .if2 .left), omega arith)
 
 pub new-field-spec : {M : Type 1} → statement M
-new-field-spec =
-    tie.close
-    (tie.spec
-    returns
-    add-if2
-    mul-field
-    add-field
-    sub-field
-    add-field-2
-    field-requires
-    value-at-requires
-    unsigned-of-requires
-    returns-2
-    returns-3)
+new-field-spec = tie.close (tie.spec returns (λ c. search needs) (λ c. search needs) (λ c. search needs) sub-field (λ c. search needs) (λ c κs. search needs) (λ c κs. search needs) unsigned-of-requires returns-2 returns-3)

@@ -1,55 +1,25 @@
+use Prim.Native.Nat.{_+_, _-_}
+use mathlib.Core.Path.{_∙_, ap}
+use native.Mathlib.Omega.{arith}
+use Rattle.nodes.specs.Born.{Node}
+use Rattle.nodes.proofs.NodeLaws.{node-start, node-next, node-over}
+use borrow.Author.Needs.{needs}
 use Rattle.nodes.proofs.put_node.Statement.{statement}
 use Rattle.nodes.proofs.put_node.Tie as tie
-use Rattle.nodes.proofs.put_node.Reads as reads
-use Rattle.nodes.proofs.put_node.Lts as lts
-use Rattle.nodes.proofs.new_field.Reads as new-field-reads
-use Rattle.nodes.proofs.put_field.Reads as put-field-reads
 
 abbrev Inv-loop : tie.InvT-loop
-Inv-loop vars bs row r parent k nb₀ last f₀ nb f = ?
+Inv-loop vars bs row r parent k nb₀ last f₀ nb f = Node vars bs row r parent k f nb₀ nb
 
 abbrev μ-loop : tie.MeasureT-loop
-μ-loop vars bs row r parent k nb₀ last f₀ nb f = ?
+μ-loop vars bs row r parent k nb₀ last f₀ nb f = last - f
 
--- src/lib.rt:194:16
-add-last : tie.Need-add-last Inv-loop μ-loop
-add-last c = ?
-
--- src/lib.rt:194:16
-add-last-2 : tie.Need-add-last-2 Inv-loop μ-loop
-add-last-2 c = ?
-
--- src/lib.rt:196:5
-loop-holds : tie.Need-loop-holds Inv-loop μ-loop
-loop-holds c = ?
-
--- src/lib.rt:197:35
-new-field-requires : tie.Need-new-field-requires Inv-loop μ-loop
-new-field-requires c κs = ?
-
--- src/lib.rt:197:9
 put-field-requires : tie.Need-put-field-requires Inv-loop μ-loop
-put-field-requires c κs = ?
+put-field-requires c κs =
+    let p = c .before .before .before .before .before .before .pre in
+    ((p .0 .1, p .0 .4, omega (arith, p .0 .0, c .before .before .loop-test .taken), c .new-field .ensures .1), omega (arith, p .1 .0, c .before .before .before .loop .inv .stays .long))
 
--- src/lib.rt:198:9
-add-f : tie.Need-add-f Inv-loop μ-loop
-add-f c = ?
-
--- src/lib.rt:196:5
-loop-less : tie.Need-loop-less Inv-loop μ-loop
-loop-less c = ?
-
--- src/lib.rt:196:5
 loop-again : tie.Need-loop-again Inv-loop μ-loop
-loop-again c = ?
-
--- src/lib.rt:180:1
-same-length : tie.Need-same-length Inv-loop μ-loop
-same-length c = ?
-
--- src/lib.rt:180:1
-returns : tie.Need-returns Inv-loop μ-loop
-returns c = ?
+loop-again c = node-next _ _ _ _ _ _ (c .before .before .before .before .before .before .loop .inv) (c .before .before .before .before .before .before .before .before .before .pre .0 .0) (c .before .before .before .before .before .loop-test .taken) (c .before .before .before .before .before .before .before .before .before .pre .1 .0) (c .before .before .before .new-field .ensures .0) (c .before .before .before .new-field .ensures .1) (c .before .before .put-field .ensures)
 
 pub put-node-spec : {M : Type 1} → statement M
 put-node-spec =
@@ -57,13 +27,13 @@ put-node-spec =
     (tie.spec
     Inv-loop
     μ-loop
-    add-last
-    add-last-2
-    loop-holds
-    new-field-requires
+    (λ c. search needs)
+    (λ c. search needs)
+    (λ c. node-start _ _ _ _ _ _ _)
+    (λ c κs. search needs)
     put-field-requires
-    add-f
-    loop-less
+    (λ c. search needs)
+    (λ c. search needs)
     loop-again
-    same-length
-    returns)
+    (λ c. c .before .loop .inv .stays .long)
+    (λ c. node-over _ _ _ _ _ _ (c .before .loop .inv) (c .loop-test .left)))

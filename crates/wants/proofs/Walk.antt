@@ -1,0 +1,2 @@
+-- The walk over the commands, their branch records and the children.
+-- Assumes nothing.
