@@ -1,1 +1,2 @@
-
+pub mod CoverLaws
+pub mod Lowering

@@ -167,7 +167,7 @@ fn lowered_hint(vars: usize, nb: &[u8], n: usize, i: usize) -> usize
 
 // All hints are lowered by node n.
 pub fn lower_hints(vars: usize, nb: &mut [u8], nodes: usize, n: usize)
-    requires { ⌜ (vars ≤ mostVariables) × (nodes ≤ fieldLimit) × (n < fieldLimit) ⌝ }
+    requires { ⌜ (0 < vars) × (vars ≤ mostVariables) × (nodes ≤ fieldLimit) × (n < fieldLimit) ⌝ }
     requires { ⌜ nodeSize vars * nodes ≤ length (now nb) ⌝ }
     ensures { λ _. ⌜ Lowered vars n nodes (now (nb .entry)) (now (nb .exit)) ⌝ }
 {

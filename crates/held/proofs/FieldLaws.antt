@@ -1,7 +1,7 @@
 -- What a written field changes of the node records, and what stays.
 -- Assumes nothing.
 use Prim.Native.Nat.{ℕ, suc, _+_, _*_, _^_, _<_, _≤_}
-use mathlib.Core.Path.{_≡_, refl, sym, ap, _∙_}
+use mathlib.Core.Path.{_≡_, ap}
 use mathlib.Core.Logic.{_⊎_, inl, inr}
 use mathlib.Core.List.{List}
 use native.Mathlib.Nat.{mul-le-mul-left, mul-suc, pow-suc, pow-le-pow-right, le-trans}
@@ -17,7 +17,7 @@ use Rattle.model.specs.Limits.{mostVariables}
 use Rattle.model.specs.Layout.{variableCount}
 use Rattle.graph.specs.Simulation.{nodeSize}
 use Rattle.building.proofs.SetLaws.{union-small}
-use Rattle.put.specs.Put.{put2, Stays}
+use Rattle.put.specs.Put.{Stays}
 use Rattle.put.proofs.PutLaws.{put-length, put-back, put-other, stays-none, stays-put, u16-below, u16-past}
 use Rattle.held.specs.Held.{stateField, fieldCount, nodeIn, stateIn, putIn, Whole}
 

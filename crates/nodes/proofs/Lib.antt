@@ -1,3 +1,4 @@
 pub mod NodeLaws
 pub mod Walk
 pub mod BroodLaws
+pub mod Expanded

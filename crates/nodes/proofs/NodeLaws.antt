@@ -1,13 +1,13 @@
 -- Node records written field by field, and nodes one after the other.
 -- Assumes nothing.
 use Prim.Native.Nat.{ℕ, _+_, _-_, _*_, _^_, _%_, _<_, _≤_}
-use mathlib.Core.Path.{_≡_, refl, sym, ap, _∙_, subst}
-use mathlib.Core.Bool.{Bool, true, false, _&&_}
+use mathlib.Core.Path.{_≡_, sym, ap, _∙_, subst}
+use mathlib.Core.Bool.{true, false, _&&_}
 use mathlib.Core.List.{List}
 use native.Mathlib.Nat.{mod-eq-of-lt, one-mul, mul-le-mul-left}
 use native.Mathlib.Decide.{decLt}
 use native.Mathlib.Omega.{arith}
-use borrow.Author.Tests.{eq-eqb, ne-eqb, lt-leb, le-ltb, le-leb, lt-ltb}
+use borrow.Author.Tests.{eq-eqb, ne-eqb, lt-leb, le-ltb, le-leb}
 use lib.Dec.{leb, ltb}
 use lib.ListN.{length}
 use lib.IntN.{ℤ}
@@ -19,7 +19,7 @@ use Rattle.graph.specs.Simulation.{nodeSize}
 use Rattle.put.specs.Put.{unsigned, Stays}
 use Rattle.put.proofs.PutLaws.{stays-none, stays-put, stays-then}
 use Rattle.held.specs.Held.{parentField, stateField, fieldCount, putIn, Whole}
-use Rattle.held.proofs.FieldLaws.{bit-field, record-at, put-here, put-there, put-long, field-below}
+use Rattle.held.proofs.FieldLaws.{bit-field, record-at, put-here, put-there, field-below}
 use Rattle.nodes.specs.Born.{resultOf, newField, newFields, Node, Family}
 
 -- A field of a record that is there has room.

@@ -117,10 +117,7 @@ pub fn is_on(cs: &[u8], row: &[i64], c: usize) -> bool
     requires { ⌜ c ≤ fieldLimit ⌝ }
     ensures { λ r. ⌜ r ≡ onIn (now (cs .entry)) (now (row .entry)) c ⌝ }
 {
-    whole::equal(
-        evaluate::value_at(row, folder::field(4, cs, c, 0)),
-        1,
-    )
+    whole::equal(evaluate::value_at(row, folder::field(4, cs, c, 0)), 1)
 }
 
 pub fn if_on(on: bool, n: usize) -> usize
@@ -177,15 +174,7 @@ pub struct Births {
 }
 
 // Node k is written, by branch record r.
-fn put_node(
-    vars: usize,
-    bs: &[u8],
-    row: &[i64],
-    r: usize,
-    parent: usize,
-    k: usize,
-    nb: &mut [u8],
-)
+fn put_node(vars: usize, bs: &[u8], row: &[i64], r: usize, parent: usize, k: usize, nb: &mut [u8])
     requires { ⌜ (0 < vars) × (vars ≤ mostVariables) × (r ≤ fieldLimit) × (parent < fieldLimit) × (k ≤ fieldLimit) ⌝ }
     requires { ⌜ Whole vars (now nb) k ⌝ }
     requires { ⌜ ResultsFit vars (now bs) (now row) r ⌝ }

@@ -21,13 +21,14 @@ use Rattle.expressions.proofs.States.{number-misses, truth-misses}
 use Rattle.evaluate.specs.Settled.{asNumber}
 use Rattle.states.specs.Read.{isKnownNumber, readsKnown}
 use Rattle.states.proofs.Reading.{read-number, read-truth}
+use Rattle.model.specs.Layout.{variableCount, branchSize}
 use Rattle.model.specs.Model.{Model, modelOf}
 use Rattle.model.proofs.Limits.{limits}
 use Rattle.building.specs.First.{_orelse_, given, first}
 use Rattle.building.specs.Moves.{wantedT, wantedN}
 use Rattle.building.proofs.FirstLaws.{nothing, Searched, search-next, search-found, search-over}
-use Rattle.held.specs.Held.{labelIn, NodeHere}
-use Rattle.wants.specs.Wants.{found, truthWantsIn, numberWantsIn}
+use Rattle.held.specs.Held.{readField, nodeIn, setIn, labelIn, NodeHere}
+use Rattle.wants.specs.Wants.{found, truthWantsIn, numberWantsIn, ReadBy}
 use Rattle.wants.proofs.Here.{label-proper}
 
 -- ---- a variable, or none
@@ -159,3 +160,18 @@ module _ {m nb : List ℕ} {n : ℕ} (here : NodeHere m nb n) where
 
     pub target-wants : {o : Option ℕ} → o ≡ truthWantsIn m nb n e → o ≡ truthWantsIn m nb n (modelOf m .target)
     target-wants h = h ∙ ap (truthWantsIn m nb n) target-is
+
+  -- What branch record r assigns to variable v.
+  module _ (r v : ℕ) {vars : ℕ} {bs : List ℕ} {e : ℕ} (k : vars ≡ variableCount m) (q : bs ≡ body m 4) (p : e ≡ field (branchSize vars) bs r (1 + v)) (l : v < modelOf m .variables) where
+    assigned-is : e ≡ modelOf m .assigned r v
+    assigned-is = p ∙ (λ i. field (branchSize (k i)) (q i) r (1 + v))
+
+    pub assigned-there : r < modelOf m .records → IsNumber (modelOf m .entries) e
+    assigned-there b = rw assigned-is (here .model .model .branches r b .number v l)
+
+    -- Where the child x is known to be read, nothing is wanted.
+    pub assigned-wants : {x : ℕ} → ReadBy m nb n x r → {asked : Bool} {set read : ℕ} → set ≡ setIn m nb x → read ≡ nodeIn m nb x readField → asked ≡ (hasBit set v && not (hasBit read v))
+        → {o : Option ℕ} → o ≡ given asked (numberWantsIn m nb n e) → o ≡ given (hasBit (setIn m nb x) v) (numberWantsIn m nb n (modelOf m .assigned r v))
+    assigned-wants {x} known f g h j =
+        j ∙ (λ i. given ((h ∙ (λ a. hasBit (f a) v && not (hasBit (g a) v))) i) (numberWantsIn m nb n (assigned-is i)))
+        ∙ given-new (hasBit (setIn m nb x) v) (hasBit (nodeIn m nb x readField) v) (numberWantsIn m nb n (modelOf m .assigned r v)) (known .is v l)

@@ -39,7 +39,7 @@ use Rattle.model.proofs.Limits.{limits}
 use Rattle.graph.specs.Simulation.{nodeSize}
 use Rattle.building.proofs.ReadLaws.{proper-by, holds-own}
 use Rattle.held.specs.Held.{stateField, nodeIn, stateIn, setIn, labelIn, NodeHere}
-use Rattle.wants.specs.Wants.{MasksOf, LabelFlagged, StateSettled, NodeRead}
+use Rattle.wants.specs.Wants.{MasksOf, LabelFlagged, NodeRead}
 
 -- Field f of node n, as the code reads it.
 pub field-read : (m nb : List ℕ) (n f : ℕ) {vars size x : ℕ} → vars ≡ variableCount m → size ≡ nodeSize vars → x ≡ field size nb n f → x ≡ nodeIn m nb n f

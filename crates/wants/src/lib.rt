@@ -73,15 +73,7 @@ pub fn settle(m: &[u8], nb: &[u8], n: usize, known: &mut [u8], state: &mut [i64]
 }
 
 // Reads entry e, which is not flagged, by all states of the label.
-fn widen(
-    m: &[u8],
-    nb: &[u8],
-    n: usize,
-    masks: &[u16],
-    state: &[i64],
-    e: usize,
-    known: &mut [u8],
-)
+fn widen(m: &[u8], nb: &[u8], n: usize, masks: &[u16], state: &[i64], e: usize, known: &mut [u8])
     requires { ⌜ NodeRead (now m) (now nb) n (now masks) (now known) (now state) ⌝ }
     requires { ⌜ (e < modelOf (now m) .entries .count) × (isUp (now known) e ≡ false) ⌝ }
     ensures { λ _. ⌜ Widened (modelOf (now (m .entry)) .entries) (labelIn (now (m .entry)) (now (nb .entry)) n) e (now (known .entry)) (now (known .exit)) ⌝ }

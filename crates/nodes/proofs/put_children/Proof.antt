@@ -1,7 +1,5 @@
-use Prim.Native.Nat.{_-_, _≤_, _+_, _*_}
-use mathlib.Core.Path.{_≡_}
+use Prim.Native.Nat.{_-_, _≤_}
 use native.Mathlib.Omega.{arith}
-use lib.ListN.{length}
 use Rattle.nodes.specs.Born.{Brood}
 use Rattle.nodes.proofs.Walk.{Stepped, step-start, step-next, records-within, children-within, bytes-within}
 use Rattle.nodes.proofs.BroodLaws.{brood-start, brood-next, brood-over, fits-as}
@@ -22,8 +20,7 @@ put-family-requires c κs =
     let t = c .before .before .before .before .loop-test .taken in
     let f = c .before .before .before .field .ensures .0 in
     let o = c .before .before .is-on .ensures in
-    let n = c .before .if-on .ensures in
-    (
+    let n = c .before .if-on .ensures in (
       (
         p .0 .0,
         p .0 .1,

@@ -1,4 +1,4 @@
-use Prim.Native.Nat.{_-_, _≤_, _+_}
+use Prim.Native.Nat.{_-_, _≤_}
 use native.Mathlib.Omega.{arith}
 use Rattle.nodes.specs.Born.{Family}
 use Rattle.nodes.proofs.NodeLaws.{family-none, family-next, family-over, family-room}
@@ -21,8 +21,7 @@ add-put-node-2 c = omega (arith, c .before .before .before .before .pre .0 .3, c
 put-node-requires : tie.Need-put-node-requires Inv-loop μ-loop
 put-node-requires c κs =
     let p = c .before .before .before .before .before .pre in
-    let t = c .before .loop-test .taken in
-    (
+    let t = c .before .loop-test .taken in (
       (p .0 .0, p .0 .1, omega (arith, p .0 .2), p .0 .4, omega (arith, p .0 .3)),
       (family-room _ _ _ _ _ _ (c .before .before .loop .inv .1) t (p .1 .0), p .1 .1 .each _ t),
     )

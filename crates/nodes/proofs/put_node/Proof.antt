@@ -1,5 +1,4 @@
-use Prim.Native.Nat.{_+_, _-_}
-use mathlib.Core.Path.{_∙_, ap}
+use Prim.Native.Nat.{_-_}
 use native.Mathlib.Omega.{arith}
 use Rattle.nodes.specs.Born.{Node}
 use Rattle.nodes.proofs.NodeLaws.{node-start, node-next, node-over}

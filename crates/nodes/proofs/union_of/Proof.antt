@@ -1,6 +1,5 @@
 use mathlib.Core.Path.{refl}
 use Rattle.expressions.specs.Mentions.{union}
-use borrow.Author.Needs.{needs}
 use Rattle.nodes.proofs.union_of.Statement.{statement}
 use Rattle.nodes.proofs.union_of.Tie as tie
 

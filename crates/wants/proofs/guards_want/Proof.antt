@@ -1,4 +1,4 @@
-use Prim.Native.Nat.{_-_}
+use Prim.Native.Nat.{_-_, _<_}
 use mathlib.Core.Path.{_≡_, refl, _∙_}
 use native.Mathlib.Omega.{arith}
 use lib.ListN.{length}
@@ -27,8 +27,8 @@ field-requires c κs = omega (arith, c .loop-test .taken, commands-are _ (c .bef
 
 truth-wants-requires : tie.Need-truth-wants-requires Inv-loop μ-loop
 truth-wants-requires c κs =
-    let l = omega (arith, c .before .before .loop-test .taken, commands-are _ (c .before .before .before .before .before .body .ensures) (c .before .before .before .before .count-of .ensures)) in
-    (read-again c .before .before .before .before .before .before .before .before .before .before .pre (c .before .before .before .loop .inv .1) (c .before .before .before .loop .inv .2), guard-there (c .before .before .before .before .before .before .before .before .before .before .pre .node) _ (c .before .before .before .before .before .body .ensures) (c .before .field .ensures .0) l)
+    let l : c .before .before .before .loop .c < modelOf (c .before .before .before .before .before .before .before .before .before .before .args .m .now) .commands = omega (arith, c .before .before .loop-test .taken, commands-are _ (c .before .before .before .before .before .body .ensures) (c .before .before .before .before .count-of .ensures)) in
+    (read-again (c .before .before .before .before .before .before .before .before .before .before .pre) (c .before .before .before .loop .inv .1) (c .before .before .before .loop .inv .2), guard-there (c .before .before .before .before .before .before .before .before .before .before .pre .node) _ (c .before .before .before .before .before .body .ensures) (c .before .field .ensures .0) l)
 
 same-length : tie.Need-same-length Inv-loop μ-loop
 same-length c = c .before .before .known .given ∙ c .before .before .before .before .before .before .before .loop .inv .2
@@ -36,12 +36,12 @@ same-length c = c .before .before .known .given ∙ c .before .before .before .b
 returns : tie.Need-returns Inv-loop μ-loop
 unfolding guardsIn
 returns c =
-    let l = omega (arith, c .before .before .before .before .before .before .loop-test .taken, commands-are _ (c .before .before .before .before .before .before .before .before .before .body .ensures) (c .before .before .before .before .before .before .before .before .count-of .ensures)) in
+    let l : c .before .before .before .before .before .before .before .loop .c < modelOf (c .before .before .before .before .before .before .before .before .before .before .before .before .before .before .args .m .now) .commands = omega (arith, c .before .before .before .before .before .before .loop-test .taken, commands-are _ (c .before .before .before .before .before .before .before .before .before .body .ensures) (c .before .before .before .before .before .before .before .before .count-of .ensures)) in
     (search-hit (c .before .before .before .before .before .before .before .loop .inv .0) l (guard-wants (c .before .before .before .before .before .before .before .before .before .before .before .before .before .before .pre .node) _ (c .before .before .before .before .before .before .before .before .before .body .ensures) (c .before .before .before .before .before .field .ensures .0) (c .before .before .before .truth-wants .ensures .0)) (c .if1 .taken), c .before .before .before .truth-wants .ensures .1)
 
 loop-again : tie.Need-loop-again Inv-loop μ-loop
 loop-again c =
-    let l = omega (arith, c .before .before .before .before .before .before .loop-test .taken, commands-are _ (c .before .before .before .before .before .before .before .before .before .body .ensures) (c .before .before .before .before .before .before .before .before .count-of .ensures)) in (
+    let l : c .before .before .before .before .before .before .before .loop .c < modelOf (c .before .before .before .before .before .before .before .before .before .before .before .before .before .before .args .m .now) .commands = omega (arith, c .before .before .before .before .before .before .loop-test .taken, commands-are _ (c .before .before .before .before .before .before .before .before .before .body .ensures) (c .before .before .before .before .before .before .before .before .count-of .ensures)) in (
       search-miss (c .before .before .before .before .before .before .before .loop .inv .0) l (guard-wants (c .before .before .before .before .before .before .before .before .before .before .before .before .before .before .pre .node) _ (c .before .before .before .before .before .before .before .before .before .body .ensures) (c .before .before .before .before .before .field .ensures .0) (c .before .before .before .truth-wants .ensures .0)) (c .if1 .left),
       c .before .before .before .truth-wants .ensures .1,
       c .before .before .known .given ∙ c .before .before .before .before .before .before .before .loop .inv .2,

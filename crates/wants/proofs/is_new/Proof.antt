@@ -1,6 +1,7 @@
 use borrow.Author.Needs.{needs}
 use Rattle.wants.proofs.is_new.Statement.{statement}
 use Rattle.wants.proofs.is_new.Tie as tie
+
 returns : tie.Need-returns
 returns c = cc
 

@@ -4,6 +4,7 @@ use lib.ListN.{length}
 use Rattle.folder.specs.Contents.{countOf}
 use Rattle.folder.proofs.TabLaws.{length-tab}
 use Rattle.folder.proofs.FillLaws.{take-filled}
+use Rattle.expressions.specs.Limits.{mostExpressions}
 use Rattle.model.proofs.Limits.{limits}
 use Rattle.expand.proofs.Ready.{grounded-as}
 use Rattle.wants.proofs.Here.{loaded, none-flagged, stated-as, state-grounded}
@@ -19,7 +20,7 @@ fill-state-requires c κs =
     let e = ap (countOf 8) (c .before .before .before .body .ensures) in
     let k = limits (c .before .before .before .before .before .before .before .before .before .before .pre .0 .model .folder) .expressions in
     let l = loaded _ _ _ _ (c .before .before .before .before .before .before .before .variable-count .ensures .0) (c .before .before .before .before .before .load-row .ensures) in
-    (grounded-as (c .before .before .before .body .ensures) l (state-grounded (c .before .before .before .before .before .before .before .before .before .before .pre .0)), (none-flagged _ _ _ _, (omega arith, omega arith)))
+    (grounded-as (c .before .before .before .body .ensures) l (state-grounded (c .before .before .before .before .before .before .before .before .before .before .pre .0)), (none-flagged _ _ _ mostExpressions, (omega arith, omega arith)))
 
 returns : tie.Need-returns
 returns c = stated-as (c .before .before .before .before .before .body .ensures) (loaded _ _ _ _ (c .before .before .before .before .before .before .before .before .before .variable-count .ensures .0) (c .before .before .before .before .before .before .before .load-row .ensures)) (c .before .fill-state .ensures)

@@ -1,0 +1,110 @@
+-- Document 02, 2.5: what the builder's loop holds.
+-- Assumes nothing.
+use Prim.Native.Nat.{ℕ, _+_, _*_, _<_, _≤_}
+use mathlib.Core.Path.{_≡_}
+use mathlib.Core.List.{List}
+use mathlib.Core.Option.{Option, none, some}
+use lib.ListN.{length}
+use Rattle.model.specs.Layout.{variableCount}
+use Rattle.model.specs.Model.{modelOf}
+use Rattle.graph.specs.Limits.{leastBytes, mostBytes, mostNodes}
+use Rattle.graph.specs.Simulation.{nodeSize}
+use Rattle.building.specs.Building.{Building}
+use Rattle.building.specs.Length.{graphLength}
+use Rattle.building.specs.Moves.{Limit, Move, track, adopt, drop, coverBy, reach, expand, nextMove, moved}
+use Rattle.building.specs.Kept.{Mended}
+use Rattle.building.specs.Built.{Reached}
+use Rattle.building.specs.Working.{ReadRight, ParentRight, Settled, HintRight, ReachRight, MarkRight, NextRight}
+use Rattle.put.specs.Put.{Stays}
+use Rattle.held.specs.Held.{heldIn}
+use Rattle.repairs.specs.Standing.{readIn, parentIn, hintIn, rowIn, Standing}
+use Rattle.builder.specs.declared.Work.{Work}
+
+-- At most 4,096 nodes, and so many bytes.
+abbrev pub limitOf : ℕ → Limit
+limitOf longest = record { most = mostNodes; longest = longest }
+
+-- The graph that the records hold.
+abbrev pub graphIn : List ℕ → Work → List ℕ → Building
+graphIn m w nb = heldIn m (w .nodes) nb
+
+-- The bytes that it may take are lent, and it takes no more.
+pub record Lent (m : List ℕ) (longest : ℕ) (w : Work) (nb : List ℕ) : Type 0 where
+  pub counted : w .len ≡ graphLength (modelOf m) (graphIn m w nb)
+  pub short : w .len ≤ longest
+  pub lent : longest ≤ leastBytes + length nb
+  pub limit : longest ≤ mostBytes
+
+-- What is known besides the graph.
+pub record Known (m : List ℕ) (w : Work) (nb marks reaches : List ℕ) : Type 0 where
+  pub parents : ParentRight (modelOf m) (graphIn m w nb) (parentIn m nb)
+  pub settled : Settled (modelOf m) (graphIn m w nb) (w .fresh)
+  pub hints : HintRight (modelOf m) (graphIn m w nb) (hintIn m nb) (w .fresh)
+  pub reaches : ReachRight (modelOf m) (graphIn m w nb) (rowIn reaches)
+  pub marked : MarkRight (modelOf m) (graphIn m w nb) (rowIn marks) (w .low) (w .high)
+  pub next : NextRight (modelOf m) (graphIn m w nb) (w .next)
+  pub window : (w .low ≤ w .high) × (w .high ≤ w .nodes) × (w .next ≤ w .nodes)
+  pub fresh : w .fresh ≤ mostNodes
+  pub bounds : ((i : ℕ) → i < w .nodes → parentIn m nb i < w .nodes) × ((x : ℕ) → rowIn reaches x ≤ w .nodes)
+  pub rows : (mostNodes ≤ length marks) × (mostNodes ≤ length reaches)
+
+pub record Working (m masks : List ℕ) (longest : ℕ) (w : Work) (nb marks reaches : List ℕ) : Type 0 where
+  pub standing : Standing m masks (w .nodes) nb
+  pub reached : Reached (modelOf m) (limitOf longest) (graphIn m w nb)
+  pub lent : Lent m longest w nb
+  pub known : Known m w nb marks reaches
+
+-- ---- what looking for the next move leaves
+
+-- The same graph; only what is marked as read, and hints, may have changed.
+pub record Looked (m : List ℕ) (w : Work) (old new : List ℕ) : Type 0 where
+  pub held : graphIn m w new ≡ graphIn m w old
+  pub read : ReadRight (modelOf m) (graphIn m w new) (readIn m new)
+  pub parents : (i : ℕ) → parentIn m new i ≡ parentIn m old i
+  pub stays : Stays 0 (nodeSize (variableCount m) * w .nodes) old new
+
+-- Node n is to be repaired: no node below it is marked.
+pub record ToRepair (m : List ℕ) (w : Work) (nb marks : List ℕ) (n : ℕ) : Type 0 where
+  pub hints : HintRight (modelOf m) (graphIn m w nb) (hintIn m nb) (w .fresh)
+  pub marked : MarkRight (modelOf m) (graphIn m w nb) (rowIn marks) n (w .high)
+
+-- No rule is broken: n is the lowest node that waits, if one does, and all hints hold.
+pub record ToGrow (m : List ℕ) (w : Work) (nb marks : List ℕ) (n : ℕ) : Type 0 where
+  pub mended : Mended (modelOf m) (graphIn m w nb)
+  pub hints : HintRight (modelOf m) (graphIn m w nb) (hintIn m nb) (w .nodes)
+  pub marked : MarkRight (modelOf m) (graphIn m w nb) (rowIn marks) (w .high) (w .high)
+  pub next : NextRight (modelOf m) (graphIn m w nb) n
+
+-- By the move.
+abbrev pub ToMake : List ℕ → Work → List ℕ → List ℕ → Option Move → Type 0
+ToMake m w nb marks none = ToGrow m w nb marks (w .nodes)
+ToMake m w nb marks (some (track n v)) = ToRepair m w nb marks n
+ToMake m w nb marks (some (adopt n)) = ToRepair m w nb marks n
+ToMake m w nb marks (some (drop n)) = ToRepair m w nb marks n
+ToMake m w nb marks (some (coverBy n c)) = ToGrow m w nb marks n
+ToMake m w nb marks (some (reach n)) = ToGrow m w nb marks n
+ToMake m w nb marks (some (expand n)) = ToGrow m w nb marks n
+
+-- ---- a move made
+
+-- The move `mv` is the next one, and can be made.
+pub record Ready (m masks : List ℕ) (longest : ℕ) (w : Work) (nb marks reaches : List ℕ) (mv : Option Move) : Type 0 where
+  pub standing : Standing m masks (w .nodes) nb
+  pub reached : Reached (modelOf m) (limitOf longest) (graphIn m w nb)
+  pub lent : Lent m longest w nb
+  pub next : mv ≡ nextMove (modelOf m) (limitOf longest) (graphIn m w nb)
+  pub parents : ParentRight (modelOf m) (graphIn m w nb) (parentIn m nb)
+  pub settled : Settled (modelOf m) (graphIn m w nb) (w .fresh)
+  pub reaches : ReachRight (modelOf m) (graphIn m w nb) (rowIn reaches)
+  pub waits : NextRight (modelOf m) (graphIn m w nb) (w .next)
+  pub window : (w .high ≤ w .nodes) × (w .next ≤ w .nodes) × (w .fresh ≤ mostNodes)
+  pub bounds : ((i : ℕ) → i < w .nodes → parentIn m nb i < w .nodes) × ((x : ℕ) → rowIn reaches x ≤ w .nodes)
+  pub rows : (mostNodes ≤ length marks) × (mostNodes ≤ length reaches)
+  pub to-make : ToMake m w nb marks mv
+
+-- It is made.
+pub record Made (m masks : List ℕ) (longest : ℕ) (w : Work) (nb : List ℕ) (mv : Option Move) (w′ : Work) (nb′ marks′ reaches′ : List ℕ) : Type 0 where
+  pub is : graphIn m w′ nb′ ≡ moved (modelOf m) mv (graphIn m w nb)
+  pub working : Working m masks longest w′ nb′ marks′ reaches′
+  pub grows : w .nodes ≤ w′ .nodes
+  pub stays : Stays 0 (nodeSize (variableCount m) * w′ .nodes) nb nb′
