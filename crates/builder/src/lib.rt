@@ -201,14 +201,7 @@ fn mark_reach(vars: usize, nb: &[u8], n: usize, parent: usize, end: usize, marks
 }
 
 // The label of node n is to grow by the move `mv`, which is made by then: what it may break is marked.
-fn grow_label(
-    m: &[u8],
-    nb: &[u8],
-    marks: &mut [u8],
-    reaches: &[u16],
-    w: Work,
-    n: usize,
-) -> Work
+fn grow_label(m: &[u8], nb: &[u8], marks: &mut [u8], reaches: &[u16], w: Work, n: usize) -> Work
     requires { ⌜ Valid (now m) ⌝ }
     requires { ⌜ (n < w .nodes) × (w .nodes ≤ mostNodes) × (w .high ≤ w .nodes) × (parentIn (now m) (now nb) n < w .nodes) × (rowIn (now reaches) n ≤ w .nodes) ⌝ }
     requires { ⌜ (mostNodes ≤ length (now marks)) × (mostNodes ≤ length (now reaches)) ⌝ }
@@ -381,7 +374,16 @@ fn make_expanded(
     let cs = folder::body(m, 3);
     let commands = folder::count_of(4, cs);
     let cost = nodes::cost_of(cs, &state, commands);
-    nodes::put_children(vars, cs, folder::body(m, 4), &state, commands, n, w.nodes, nb);
+    nodes::put_children(
+        vars,
+        cs,
+        folder::body(m, 4),
+        &state,
+        commands,
+        n,
+        w.nodes,
+        nb,
+    );
     nodes::become_parent(vars, nb, n, w.nodes);
     marks[n] = 1;
     let len = w.len + (graph::node_size(vars) * cost.births + cost.bytes);
@@ -405,12 +407,30 @@ fn make(
 {
     match mv {
         Move::Track(node, other) => {
-            make_track(m, nb, masks, marks, reaches, longest, w, Pair { node, other })
+            make_track(
+                m,
+                nb,
+                masks,
+                marks,
+                reaches,
+                longest,
+                w,
+                Pair { node, other },
+            )
         }
         Move::Adopt(n) => make_adopt(m, nb, masks, marks, reaches, longest, w, n),
         Move::Drop(n) => make_drop(m, nb, masks, marks, reaches, longest, w, n),
         Move::Cover(node, other) => {
-            make_cover(m, nb, masks, marks, reaches, longest, w, Pair { node, other })
+            make_cover(
+                m,
+                nb,
+                masks,
+                marks,
+                reaches,
+                longest,
+                w,
+                Pair { node, other },
+            )
         }
         Move::Reach(n) => make_target(m, nb, masks, marks, reaches, longest, w, n),
         Move::Expand(n) => make_expanded(m, nb, masks, marks, reaches, longest, w, n),

@@ -3,6 +3,10 @@ use expressions::NO_VARIABLE;
 use graph::COVERED;
 use graph::EXPANDED;
 use graph::TARGET;
+use nodes::COVER;
+use nodes::KIND;
+use nodes::SET;
+use nodes::STATE;
 ghost use mathlib.Core.Path.{_≡_};
 ghost use mathlib.Core.Bool.{true, false, not};
 ghost use Prim.Native.Nat.{ℕ, _+_, _*_, _<_, _≤_};
@@ -17,19 +21,6 @@ ghost use Rattle.graph.specs.Simulation.{nodeSize, kindOf};
 ghost use Rattle.building.specs.Building.{isOpen};
 ghost use Rattle.held.specs.Held.{fieldCount, putIn, Whole};
 ghost use Rattle.covers.specs.Covers.{isWaiting, sameAt, agreesIn, canCoverIn, waitsIn, faultIn, hintAt, loweredHint, Lowered};
-
-// STUBS of crate nodes
-const KIND: usize = 0;
-const COVER: usize = 1;
-const SET: usize = 5;
-const STATE: usize = 6;
-fn put_field(vars: usize, nb: &mut [u8], n: usize, f: usize, u: usize)
-    requires { ⌜ (vars ≤ mostVariables) × (n ≤ fieldLimit) × (f < fieldCount vars) × (u < fieldLimit) ⌝ }
-    requires { ⌜ Whole vars (now nb) n ⌝ }
-    ensures { λ _. ⌜ now (nb .exit) ≡ putIn vars (now (nb .entry)) n f u ⌝ }
-{
-}
-// END OF STUBS
 
 fn is_waiting(k: usize) -> bool
     ensures { λ r. ⌜ r ≡ isWaiting (kindOf k) ⌝ }
@@ -174,7 +165,7 @@ pub fn lower_hints(vars: usize, nb: &mut [u8], nodes: usize, n: usize)
     let mut i = 0;
     while i < nodes {
         let hint = lowered_hint(vars, nb, n, i);
-        put_field(vars, nb, i, STATE + vars, hint);
+        nodes::put_field(vars, nb, i, STATE + vars, hint);
         i += 1;
     }
 }

@@ -17,5 +17,4 @@ pub fn lower(m: &[u8], g: &[u8], rounds: usize, row: &mut [u32])
     requires { ⌜ Valid (now m) (now g) ⌝ }
     requires { ⌜ nodeCount (modelOf (now m)) (now g) ≤ length (now row) ⌝ }
     ensures { λ _. ⌜ now (row .exit) ≡ fill (nodeCount (modelOf (now (m .entry))) (now (g .entry))) (roundsOf (modelOf (now (m .entry))) (simulationOf (modelOf (now (m .entry))) (now (g .entry))) rounds) (now (row .entry)) ⌝ }
-{
-}
+{}

@@ -101,14 +101,7 @@ fn repair_target(m: &[u8], nb: &[u8], nodes: usize, n: usize, masks: &[u16]) -> 
 }
 
 // The repair of node n's first broken rule, if it has one. Its guards and its target are asked for only if need be.
-fn repair_of(
-    m: &[u8],
-    nb: &mut [u8],
-    nodes: usize,
-    n: usize,
-    masks: &[u16],
-    asked: bool,
-) -> Move
+fn repair_of(m: &[u8], nb: &mut [u8], nodes: usize, n: usize, masks: &[u16], asked: bool) -> Move
     requires { ⌜ Standing (now m) (now masks) nodes (now nb) ⌝ }
     requires { ⌜ n < nodes ⌝ }
     requires { ⌜ (asked ≡ false → heldIn (now m) nodes (now nb) .kind n ≡ Kind.expanded → (guardsWant (modelOf (now m)) (heldIn (now m) nodes (now nb)) n ≡ none) × (truthWants (modelOf (now m)) (heldIn (now m) nodes (now nb)) n (modelOf (now m) .target) ≡ none)) ⌝ }

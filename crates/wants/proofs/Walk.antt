@@ -20,7 +20,7 @@ use Rattle.model.proofs.Limits.{records-small}
 use Rattle.building.specs.First.{given, first}
 use Rattle.building.specs.Building.{enabled, before}
 use Rattle.held.specs.Held.{childField, nodeIn, stateIn}
-use Rattle.wants.specs.Stub.{onIn}
+use Rattle.nodes.specs.Born.{onIn}
 use Rattle.wants.specs.Wants.{resultIn, branchesIn, childrenEnd, ReadBy, AllRead, NodeRead}
 
 -- None of a command that is not enabled.

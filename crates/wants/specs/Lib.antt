@@ -1,2 +1,1 @@
-pub mod Stub
 pub mod Wants

@@ -3,6 +3,10 @@
 use expressions::MOST_EXPRESSIONS;
 use expressions::MOST_VARIABLES;
 use expressions::NO_VARIABLE;
+use nodes::CHILD;
+use nodes::READ;
+use nodes::SET;
+use nodes::STATE;
 ghost use mathlib.Core.Path.{_≡_};
 ghost use mathlib.Core.Bool.{true, false, not, _&&_};
 ghost use mathlib.Core.Option.{none};
@@ -19,27 +23,6 @@ ghost use Rattle.model.specs.Model.{modelOf};
 ghost use Rattle.building.specs.First.{_orelse_, given, first};
 ghost use Rattle.held.specs.Held.{childField, nodeIn, labelIn, NodeHere};
 ghost use Rattle.wants.specs.Wants.{found, MasksOf, truthWantsIn, numberWantsIn, guardsIn, ownIn, resultIn, resultsIn, childrenEnd, ReadBy, AllRead, LabelFlagged, StateSettled, NodeRead};
-
-// STUBS of crate nodes, until it is proved
-const CHILD: usize = 2;
-const READ: usize = 4;
-const SET: usize = 5;
-const STATE: usize = 6;
-ghost use lib.ListN.{getD};
-ghost use Rattle.folder.specs.Pick.{pick};
-ghost use Rattle.wants.specs.Stub.{onIn};
-fn is_on(cs: &[u8], row: &[i64], c: usize) -> bool
-    requires { ⌜ c ≤ fieldLimit ⌝ }
-    ensures { λ r. ⌜ r ≡ onIn (now (cs .entry)) (now (row .entry)) c ⌝ }
-{
-    true
-}
-fn if_on(on: bool, n: usize) -> usize
-    ensures { λ r. ⌜ (r ≡ pick on n 0) × (r ≤ n) ⌝ }
-{
-    if on { n } else { 0 }
-}
-// END OF STUBS
 
 // ---- one node's rows
 
@@ -339,7 +322,7 @@ fn results_want(
     let mut c = 0;
     while c < commands {
         let branches = folder::field(4, cs, c, 1);
-        let count = if_on(is_on(cs, state, c), branches);
+        let count = nodes::if_on(nodes::is_on(cs, state, c), branches);
         let lead = Lead {
             record,
             node,
