@@ -1,0 +1,3 @@
+pub mod NodeLaws
+pub mod SweepLaws
+pub mod SettledLaws

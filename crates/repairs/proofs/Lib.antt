@@ -1,0 +1,4 @@
+pub mod Marking
+pub mod Linked
+pub mod Rereading
+pub mod Answering

@@ -21,11 +21,12 @@ ghost use Rattle.graph.specs.Simulation.{nodeSize};
 ghost use Rattle.graph.specs.Limits.{mostNodes};
 ghost use Rattle.building.specs.First.{there, onward, first};
 ghost use Rattle.building.specs.Moves.{track, truthWants, guardsWant, repairAs, repair};
-ghost use Rattle.building.specs.Working.{Settled, MarkRight};
+ghost use Rattle.building.specs.Working.{ParentRight, Settled, MarkRight};
 ghost use Rattle.held.specs.Held.{heldIn};
 ghost use Rattle.wants.specs.Wants.{found};
 ghost use Rattle.nodes.specs.Told.{told};
-ghost use Rattle.repairs.specs.Standing.{rowIn, Standing, Reread, AllMarked, nodeOf};
+ghost use Rattle.wants.specs.Standing.{parentIn, rowIn, Standing, Reread, nodeOf};
+ghost use Rattle.repairs.specs.Marked.{AllMarked};
 
 // The nodes from `from` to below `end` are marked as read, with all that they track.
 fn mark_read(vars: usize, nb: &mut [u8], from: usize, end: usize)
@@ -64,6 +65,7 @@ fn repair_expanded(
     requires { ⌜ Standing (now m) (now masks) nodes (now nb) ⌝ }
     requires { ⌜ (n < nodes) × (heldIn (now m) nodes (now nb) .kind n ≡ Kind.expanded) ⌝ }
     requires { ⌜ (asked ≡ false → (guardsWant (modelOf (now m)) (heldIn (now m) nodes (now nb)) n ≡ none) × (truthWants (modelOf (now m)) (heldIn (now m) nodes (now nb)) n (modelOf (now m) .target) ≡ none)) ⌝ }
+    requires { ⌜ ParentRight (modelOf (now m)) (heldIn (now m) nodes (now nb)) (parentIn (now m) (now nb)) ⌝ }
     ensures { λ r. ⌜ told r ≡ repairAs (modelOf (now (m .entry))) (heldIn (now (m .entry)) nodes (now (nb .entry))) n Kind.expanded ⌝ }
     ensures { λ _. ⌜ Reread (now (m .entry)) nodes (now (nb .entry)) (now (nb .exit)) ⌝ }
 {
@@ -105,6 +107,7 @@ fn repair_of(m: &[u8], nb: &mut [u8], nodes: usize, n: usize, masks: &[u16], ask
     requires { ⌜ Standing (now m) (now masks) nodes (now nb) ⌝ }
     requires { ⌜ n < nodes ⌝ }
     requires { ⌜ (asked ≡ false → heldIn (now m) nodes (now nb) .kind n ≡ Kind.expanded → (guardsWant (modelOf (now m)) (heldIn (now m) nodes (now nb)) n ≡ none) × (truthWants (modelOf (now m)) (heldIn (now m) nodes (now nb)) n (modelOf (now m) .target) ≡ none)) ⌝ }
+    requires { ⌜ ParentRight (modelOf (now m)) (heldIn (now m) nodes (now nb)) (parentIn (now m) (now nb)) ⌝ }
     ensures { λ r. ⌜ told r ≡ repair (modelOf (now (m .entry))) (heldIn (now (m .entry)) nodes (now (nb .entry))) n ⌝ }
     ensures { λ _. ⌜ Reread (now (m .entry)) nodes (now (nb .entry)) (now (nb .exit)) ⌝ }
 {
@@ -150,6 +153,7 @@ fn visit(m: &[u8], nb: &mut [u8], masks: &[u16], marks: &mut [u8], w: Marks, n: 
     requires { ⌜ Settled (modelOf (now m)) (heldIn (now m) (w .nodes) (now nb)) (w .fresh) ⌝ }
     requires { ⌜ (n < w .nodes) × (n < length (now marks)) ⌝ }
     requires { ⌜ (rowIn (now marks) n ≡ 0 → repair (modelOf (now m)) (heldIn (now m) (w .nodes) (now nb)) n ≡ none) ⌝ }
+    requires { ⌜ ParentRight (modelOf (now m)) (heldIn (now m) (w .nodes) (now nb)) (parentIn (now m) (now nb)) ⌝ }
     ensures { λ r. ⌜ told r ≡ repair (modelOf (now (m .entry))) (heldIn (now (m .entry)) (w .nodes) (now (nb .entry))) n ⌝ }
     ensures { λ _. ⌜ Reread (now (m .entry)) (w .nodes) (now (nb .entry)) (now (nb .exit)) ⌝ }
     ensures { λ r. ⌜ now (marks .exit) ≡ pick (there (told r)) (now (marks .entry)) (set (now (marks .entry)) n 0) ⌝ }
@@ -172,6 +176,7 @@ pub fn first_repair(m: &[u8], nb: &mut [u8], masks: &[u16], marks: &mut [u8], w:
     requires { ⌜ Settled (modelOf (now m)) (heldIn (now m) (w .nodes) (now nb)) (w .fresh) ⌝ }
     requires { ⌜ MarkRight (modelOf (now m)) (heldIn (now m) (w .nodes) (now nb)) (rowIn (now marks)) (w .low) (w .high) ⌝ }
     requires { ⌜ (w .low ≤ w .high) × (w .high ≤ w .nodes) × (mostNodes ≤ length (now marks)) ⌝ }
+    requires { ⌜ ParentRight (modelOf (now m)) (heldIn (now m) (w .nodes) (now nb)) (parentIn (now m) (now nb)) ⌝ }
     ensures { λ r. ⌜ told r ≡ first (w .nodes) (repair (modelOf (now (m .entry))) (heldIn (now (m .entry)) (w .nodes) (now (nb .entry)))) ⌝ }
     ensures { λ _. ⌜ Reread (now (m .entry)) (w .nodes) (now (nb .entry)) (now (nb .exit)) ⌝ }
     ensures { λ r. ⌜ MarkRight (modelOf (now (m .entry))) (heldIn (now (m .entry)) (w .nodes) (now (nb .exit))) (rowIn (now (marks .exit))) (nodeOf (w .high) (told r)) (w .high) ⌝ }

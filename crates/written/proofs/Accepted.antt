@@ -43,7 +43,7 @@ use Rattle.building.proofs.Built.{built-accepted}
 use Rattle.building.proofs.Short.{built-short}
 use Rattle.written.specs.Same.{Same}
 use Rattle.written.specs.Bytes.{nodeBody, edgeBody, graphBytes}
-use Rattle.written.proofs.FieldLaws.{Fits}
+use Rattle.put.specs.Put.{FitsField}
 use Rattle.written.proofs.FolderLaws.{folder-length, body-0, entries-right}
 use Rattle.written.proofs.ReadBack.{Fitting, bytes-long, reads-back}
 use Rattle.written.proofs.LengthLaws.{written-length}
@@ -51,19 +51,19 @@ use Rattle.written.proofs.Transfer.{summary-same, content-same, rules-s
 
 -- ---- any graph that keeps the rules fits its fields
 module _ (M : Model) (X : ModelRight M) (few-variables : M .variables ≤ mostVariables) (few-commands : M .commands ≤ mostCommands) (G : Simulation) (K : ContentRight M G) (A : RulesRight M G (byStates M G)) (few : G .nodes ≤ mostNodes) where
-  zero-fits : Fits (pos 0)
+  zero-fits : FitsField (pos 0)
   zero-fits = record { low = leZ-yes tt; high = leZ-yes tt }
 
-  concrete-fits : (n : ℕ) → n < G .nodes → (v : ℕ) → v < M .variables → Fits (G .concrete n v)
+  concrete-fits : (n : ℕ) → n < G .nodes → (v : ℕ) → v < M .variables → FitsField (G .concrete n v)
   concrete-fits n l v h = record {
     low = from-⊑ (⊑-trans (to-⊑ (X .variables v h .least)) (to-⊑ (K .nodes n l .low v h)));
     high = from-⊑ (⊑-trans (to-⊑ (K .nodes n l .high v h)) (to-⊑ (X .variables v h .most)));
   }
 
-  label-fits : (n : ℕ) → n < G .nodes → (v : ℕ) → v < M .variables → Fits (G .label n v)
+  label-fits : (n : ℕ) → n < G .nodes → (v : ℕ) → v < M .variables → FitsField (G .label n v)
   label-fits n l v h = go (tracks G n v) refl
     where
-      go : (t : Bool) → tracks G n v ≡ t → Fits (G .label n v)
+      go : (t : Bool) → tracks G n v ≡ t → FitsField (G .label n v)
       go true t = rw (A .a1 n l v h t) (concrete-fits n l v h)
       go false t = rw (K .nodes n l .untracked v h t) zero-fits
 

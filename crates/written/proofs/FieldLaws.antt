@@ -1,6 +1,6 @@
 -- Fields written and read back; lists one after the other.
 -- Assumes nothing.
-use Prim.Native.Nat.{ℕ, zero, suc, _+_, _-_, _*_, _/_, _%_, _<_, _≤_}
+use Prim.Native.Nat.{ℕ, zero, suc, _+_, _*_, _/_, _%_, _<_, _≤_}
 use mathlib.Core.Path.{_≡_, refl, ap, _∙_}
 use mathlib.Core.Logic.{_⊎_, inl, inr}
 use mathlib.Core.List.{List, [], _∷_, _++_}
@@ -8,15 +8,9 @@ use native.Mathlib.Nat.{eq-or-lt-of-le, le-of-suc-le-suc, not-suc-le-zero, div-a
 use native.Mathlib.Omega.{arith}
 use lib.ListN.{length, getD, length-append, List·getD-append}
 use lib.Seq.{getD-append-add}
-use borrow.Author.Tests.{lt-ltb, le-ltb}
-use lib.Dec.{leb→le}
-use lib.IntN.{ℤ, pos, negsuc}
-use lib.Signed.{_≤ℤ_}
-use Rattle.folder.specs.Fields.{fieldLimit, field4Limit, halfLimit, u16, signed16}
-use Rattle.expressions.specs.Limits.{farthestBound}
-use Rattle.model.specs.Limits.{leastBound, mostBound}
+use Rattle.folder.specs.Fields.{fieldLimit, field4Limit, u16}
 use Rattle.model.specs.Pedal.{fields}
-use Rattle.written.specs.Bytes.{unsigned, chain}
+use Rattle.written.specs.Bytes.{chain}
 
 -- ---- one field
 pub two-back : (n : ℕ) → n < fieldLimit → n % 256 + n / 256 % 256 * 256 ≡ n
@@ -84,27 +78,3 @@ pub four-back : (n : ℕ) → n < field4Limit
 four-back n l =
     let low : n % fieldLimit < fieldLimit = mod-lt n (omega arith) in
     rw (two-back (n % fieldLimit) low, two-back (n / fieldLimit) (high-small n l)) (word-back n)
-
--- ---- signed values
-signed-low : (n : ℕ) → n < halfLimit → signed16 n ≡ pos n
-unfolding signed16
-signed-low n l = rw (lt-ltb n halfLimit l)
-
-signed-high : (n : ℕ) → n < halfLimit → signed16 (fieldLimit - suc n) ≡ negsuc n
-unfolding signed16
-signed-high n l =
-    let e : fieldLimit - suc (fieldLimit - suc n) ≡ n = omega arith in
-    rw (le-ltb (fieldLimit - suc n) halfLimit (omega arith), lt-ltb (fieldLimit - suc n) fieldLimit (omega arith)) (ap negsuc e)
-
--- A value in a model's bounds fits a field.
-pub record Fits (z : ℤ) : Type 0 where
-  pub low : leastBound ≤ℤ z
-  pub high : z ≤ℤ mostBound
-
-pub unsigned-small : (z : ℤ) → Fits z → unsigned z < fieldLimit
-unsigned-small (pos n) f = let h : n ≤ farthestBound = leb→le n farthestBound (f .high .le) in omega arith
-unsigned-small (negsuc n) f = omega arith
-
-pub signed-back : (z : ℤ) → Fits z → signed16 (unsigned z) ≡ z
-signed-back (pos n) f = let h : n ≤ farthestBound = leb→le n farthestBound (f .high .le) in signed-low n (omega arith)
-signed-back (negsuc n) f = let h : n ≤ farthestBound - 1 = leb→le n (farthestBound - 1) (f .low .le) in signed-high n (omega arith)

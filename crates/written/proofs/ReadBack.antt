@@ -16,8 +16,10 @@ use Rattle.model.specs.Model.{Model}
 use Rattle.model.specs.Pedal.{fields}
 use Rattle.graph.specs.Simulation.{Simulation, nodeSize, edgeSize, edgeAfter, edgesStart, edgeWhole, nodeField, edgeAt, nodeCount, simulationOf}
 use Rattle.written.specs.Same.{Same}
-use Rattle.written.specs.Bytes.{unsigned, chain, nodeFields, edgeFields, edgesFields, nodeBody, edgeBody, graphBytes}
-use Rattle.written.proofs.FieldLaws.{length-fields, u16-fields, chain-within, chain-at, chain-suc, chain-wide, word-back, high-small, Fits, unsigned-small, signed-back}
+use Rattle.written.specs.Bytes.{chain, nodeFields, edgeFields, edgesFields, nodeBody, edgeBody, graphBytes}
+use Rattle.written.proofs.FieldLaws.{length-fields, u16-fields, chain-within, chain-at, chain-suc, chain-wide, word-back, high-small}
+use Rattle.put.specs.Put.{unsigned, FitsField}
+use Rattle.put.proofs.PutLaws.{unsigned-small, signed-back}
 use Rattle.written.proofs.FolderLaws.{body-0, body-1}
 
 -- Everything fits its field, and the folder is short enough for its contents.
@@ -27,8 +29,8 @@ pub record Fitting (M : Model) (G : Simulation) : Type 0 where
   pub value : (n : ℕ) → n < G .nodes → G .value n < field4Limit
   pub edges : (n : ℕ) → n < G .nodes → G .edges n < fieldLimit
   pub tracked : (n : ℕ) → n < G .nodes → G .tracked n < fieldLimit
-  pub concrete : (n : ℕ) → n < G .nodes → (v : ℕ) → v < M .variables → Fits (G .concrete n v)
-  pub label : (n : ℕ) → n < G .nodes → (v : ℕ) → v < M .variables → Fits (G .label n v)
+  pub concrete : (n : ℕ) → n < G .nodes → (v : ℕ) → v < M .variables → FitsField (G .concrete n v)
+  pub label : (n : ℕ) → n < G .nodes → (v : ℕ) → v < M .variables → FitsField (G .label n v)
   pub command : (n : ℕ) → n < G .nodes → (e : ℕ) → e < G .edges n → G .command n e < fieldLimit
   pub successor : (n : ℕ) → n < G .nodes → (e : ℕ) → e < G .edges n → (b : ℕ) → b < M .branches (G .command n e) → G .successor n e b < fieldLimit
   pub short : length (graphBytes M G) < field4Limit

@@ -1,18 +1,13 @@
 -- Document 02, 2.5: a simulation graph as a graph folder's bytes.
 -- Assumes nothing.
-use Prim.Native.Nat.{ℕ, zero, suc, _-_, _/_, _%_}
+use Prim.Native.Nat.{ℕ, zero, suc, _/_, _%_}
 use mathlib.Core.List.{List, [], _∷_, _++_}
-use lib.IntN.{ℤ, pos, negsuc}
 use Rattle.folder.specs.Fields.{fieldLimit}
 use Rattle.folder.specs.Tab.{tab}
 use Rattle.model.specs.Model.{Model}
 use Rattle.model.specs.Pedal.{fields, folderOf}
 use Rattle.graph.specs.Simulation.{Simulation}
-
--- The 2-byte field that reads as z.
-abbrev pub unsigned : ℤ → ℕ
-unsigned (pos n) = n
-unsigned (negsuc n) = fieldLimit - suc n
+use Rattle.put.specs.Put.{unsigned}
 
 -- The lists f 0 to f (n − 1), one after the other.
 unfoldable pub chain : ℕ → (ℕ → List ℕ) → List ℕ

@@ -1,24 +1,21 @@
 -- Document 02, 2.5: what looking for a repair stands on, and what it leaves.
 -- Assumes nothing.
-use Prim.Native.Nat.{ℕ, _+_, _*_, _<_, _≤_}
+use Prim.Native.Nat.{ℕ, _*_, _<_, _≤_}
 use mathlib.Core.Path.{_≡_}
-use mathlib.Core.Bool.{Bool, true, false}
 use mathlib.Core.List.{List}
 use mathlib.Core.Option.{Option, none, some}
 use lib.ListN.{length, getD}
-use Rattle.mdp.specs.Kinds.{Kind}
-use Rattle.folder.specs.Contents.{field}
 use Rattle.model.specs.Layout.{variableCount}
 use Rattle.model.specs.Model.{modelOf}
 use Rattle.model.specs.Valid.{Valid}
 use Rattle.graph.specs.Limits.{mostNodes}
 use Rattle.graph.specs.Simulation.{nodeSize}
-use Rattle.building.specs.Moves.{Move, track, adopt, drop, coverBy, reach, expand, truthWants, guardsWant}
+use Rattle.building.specs.Moves.{Move, track, adopt, drop, coverBy, reach, expand}
 use Rattle.building.specs.Kept.{Kept}
 use Rattle.building.specs.Working.{ReadRight}
 use Rattle.put.specs.Put.{Stays}
-use Rattle.held.specs.Held.{parentField, readField, trackedField, hintField, fieldCount, nodeIn, heldIn}
+use Rattle.held.specs.Held.{parentField, readField, hintField, fieldCount, nodeIn, heldIn}
 use Rattle.wants.specs.Wants.{MasksOf}
 
 -- What the records have for a node besides the graph, and what a row has for it.
 abbrev pub readIn : List ℕ → List ℕ → ℕ → ℕ
@@ -51,13 +48,6 @@ pub record Reread (m : List ℕ) (nodes : ℕ) (old new : List ℕ) : Type 0 whe
   pub read : ReadRight (modelOf m) (heldIn m nodes new) (readIn m new)
   pub others : (i f : ℕ) → f < fieldCount (variableCount m) → (f ≡ readField → ⊥) → nodeIn m new i f ≡ nodeIn m old i f
   pub stays : Stays 0 (nodeSize (variableCount m) * nodes) old new
-
--- The nodes from `from` to below `i` are marked as read: all that they track.
-pub record AllMarked (vars from i : ℕ) (old new : List ℕ) : Type 0 where
-  pub stays : Stays (nodeSize vars * from) (nodeSize vars * i) old new
-  pub inside : (x : ℕ) → from ≤ x → x < i → field (nodeSize vars) new x readField ≡ field (nodeSize vars) old x trackedField
-  pub others : (x f : ℕ) → f < fieldCount vars → (f ≡ readField → x < from) → field (nodeSize vars) new x f ≡ field (nodeSize vars) old x f
-  pub later : (x : ℕ) → i ≤ x → field (nodeSize vars) new x readField ≡ field (nodeSize vars) old x readField
 
 -- The node that a move concerns; `n` if there is none.
 abbrev pub nodeOf : ℕ → Option Move → ℕ

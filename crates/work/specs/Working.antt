@@ -1,10 +1,12 @@
 -- Document 02, 2.5: what the builder's loop holds.
 -- Assumes nothing.
-use Prim.Native.Nat.{ℕ, _+_, _*_, _<_, _≤_}
+use Prim.Native.Nat.{ℕ, _+_, _*_, _<_, _≤_, min, max}
 use mathlib.Core.Path.{_≡_}
 use mathlib.Core.List.{List}
 use mathlib.Core.Option.{Option, none, some}
+use lib.Dec.{eqb}
 use lib.ListN.{length}
+use Rattle.folder.specs.Pick.{pick}
 use Rattle.model.specs.Layout.{variableCount}
 use Rattle.model.specs.Model.{modelOf}
 use Rattle.graph.specs.Limits.{leastBytes, mostBytes, mostNodes}
@@ -17,8 +19,8 @@ use Rattle.building.specs.Built.{Reached}
 use Rattle.building.specs.Working.{ReadRight, ParentRight, Settled, HintRight, ReachRight, MarkRight, NextRight}
 use Rattle.put.specs.Put.{Stays}
 use Rattle.held.specs.Held.{heldIn}
-use Rattle.repairs.specs.Standing.{readIn, parentIn, hintIn, rowIn, Standing}
-use Rattle.builder.specs.declared.Work.{Work}
+use Rattle.wants.specs.Standing.{readIn, parentIn, hintIn, rowIn, Held, Standing}
+use Rattle.work.specs.declared.Work.{Work}
 
 -- At most 4,096 nodes, and so many bytes.
 abbrev pub limitOf : ℕ → Limit
@@ -40,7 +42,7 @@ pub record Known (m : List ℕ) (w : Work) (nb marks reaches : List ℕ) : Type 
   pub parents : ParentRight (modelOf m) (graphIn m w nb) (parentIn m nb)
   pub settled : Settled (modelOf m) (graphIn m w nb) (w .fresh)
   pub hints : HintRight (modelOf m) (graphIn m w nb) (hintIn m nb) (w .fresh)
-  pub reaches : ReachRight (modelOf m) (graphIn m w nb) (rowIn reaches)
+  pub covering : ReachRight (modelOf m) (graphIn m w nb) (rowIn reaches)
   pub marked : MarkRight (modelOf m) (graphIn m w nb) (rowIn marks) (w .low) (w .high)
   pub next : NextRight (modelOf m) (graphIn m w nb) (w .next)
   pub window : (w .low ≤ w .high) × (w .high ≤ w .nodes) × (w .next ≤ w .nodes)
@@ -77,7 +79,7 @@ pub record ToGrow (m : List ℕ) (w : Work) (nb marks : List ℕ) (n : ℕ) : Ty
 
 -- By the move.
 abbrev pub ToMake : List ℕ → Work → List ℕ → List ℕ → Option Move → Type 0
-ToMake m w nb marks none = ToGrow m w nb marks (w .nodes)
+ToMake m w nb marks none = ToGrow m w nb marks (w .next)
 ToMake m w nb marks (some (track n v)) = ToRepair m w nb marks n
 ToMake m w nb marks (some (adopt n)) = ToRepair m w nb marks n
 ToMake m w nb marks (some (drop n)) = ToRepair m w nb marks n
@@ -95,7 +97,7 @@ pub record Ready (m masks : List ℕ) (longest : ℕ) (w : Work) (nb marks reach
   pub next : mv ≡ nextMove (modelOf m) (limitOf longest) (graphIn m w nb)
   pub parents : ParentRight (modelOf m) (graphIn m w nb) (parentIn m nb)
   pub settled : Settled (modelOf m) (graphIn m w nb) (w .fresh)
-  pub reaches : ReachRight (modelOf m) (graphIn m w nb) (rowIn reaches)
+  pub covering : ReachRight (modelOf m) (graphIn m w nb) (rowIn reaches)
   pub waits : NextRight (modelOf m) (graphIn m w nb) (w .next)
   pub window : (w .high ≤ w .nodes) × (w .next ≤ w .nodes) × (w .fresh ≤ mostNodes)
   pub bounds : ((i : ℕ) → i < w .nodes → parentIn m nb i < w .nodes) × ((x : ℕ) → rowIn reaches x ≤ w .nodes)
@@ -108,3 +110,20 @@ pub record Made (m masks : List ℕ) (longest : ℕ) (w : Work) (nb : List ℕ) 
   pub working : Working m masks longest w′ nb′ marks′ reaches′
   pub grows : w .nodes ≤ w′ .nodes
   pub stays : Stays 0 (nodeSize (variableCount m) * w′ .nodes) nb nb′
+
+-- The window after node n's label has grown.
+pub record GrownWork (w : Work) (n parent end : ℕ) (w′ : Work) : Type 0 where
+  pub nodes : w′ .nodes ≡ w .nodes
+  pub len : w′ .len ≡ w .len
+  pub fresh : w′ .fresh ≡ w .fresh
+  pub next : w′ .next ≡ w .next
+  pub low : w′ .low ≡ pick (eqb end 0) (min n parent) 0
+  pub high : w′ .high ≡ max (w .high) (max (max n parent + 1) end)
+
+-- What a graph that is built comes to, in the bytes that are lent.
+pub record Grown (m : List ℕ) (longest nodes len : ℕ) (nb : List ℕ) : Type 0 where
+  pub held : Held m nodes nb
+  pub counted : len ≡ graphLength (modelOf m) (heldIn m nodes nb)
+  pub short : len ≤ longest
+  pub lent : longest ≤ leastBytes + length nb
+  pub limit : longest ≤ mostBytes

@@ -1,0 +1,285 @@
+// Document 02, 2.5: a move made in the records, with the marks, hints and reaches that go with it.
+use expressions::MOST_EXPRESSIONS;
+use graph::COVERED;
+use graph::MOST_NODES;
+use graph::TARGET;
+use graph::WAITING;
+use nodes::Move;
+use nodes::PARENT;
+use nodes::STATE;
+use work::Pair;
+use work::Work;
+ghost use mathlib.Core.Path.{_≡_};
+ghost use mathlib.Core.Bool.{true};
+ghost use mathlib.Core.Option.{some};
+ghost use Prim.Native.Nat.{_<_, _≤_};
+ghost use lib.ListN.{length};
+ghost use Rattle.folder.specs.Fields.{fieldLimit};
+ghost use Rattle.model.specs.Limits.{mostVariables};
+ghost use Rattle.model.specs.Layout.{variableCount};
+ghost use Rattle.model.specs.Valid.{Valid};
+ghost use Rattle.graph.specs.Limits.{mostNodes};
+ghost use Rattle.building.specs.First.{there};
+ghost use Rattle.building.specs.Moves.{track, adopt, drop, coverBy, reach, expand};
+ghost use Rattle.nodes.specs.Told.{told};
+ghost use Rattle.wants.specs.Standing.{parentIn, rowIn};
+ghost use Rattle.work.specs.Working.{Ready, Made, GrownWork};
+ghost use Rattle.making.specs.Marking.{isUnder, markIf, MarkedUnder, MarkedReach};
+
+// Node i is covered by node n.
+fn is_under(vars: usize, nb: &[u8], n: usize, i: usize) -> bool
+    requires { ⌜ (vars ≤ mostVariables) × (i ≤ fieldLimit) ⌝ }
+    ensures { λ r. ⌜ r ≡ isUnder vars (now (nb .entry)) n i ⌝ }
+{
+    let size = graph::node_size(vars);
+    let kind = folder::field(size, nb, i, nodes::KIND);
+    let cover = folder::field(size, nb, i, nodes::COVER);
+    (kind == COVERED) & (cover == n)
+}
+
+fn mark_if(hit: bool, mark: u8) -> u8
+    ensures { λ r. ⌜ r ≡ markIf hit mark ⌝ }
+{
+    if hit { 1 } else { mark }
+}
+
+// Marks the nodes below `end` that node n covers.
+fn mark_under(vars: usize, nb: &[u8], n: usize, end: usize, marks: &mut [u8])
+    requires { ⌜ (vars ≤ mostVariables) × (end ≤ fieldLimit) × (end ≤ length (now marks)) ⌝ }
+    ensures { λ _. ⌜ MarkedUnder vars (now (nb .entry)) n end (now (marks .entry)) (now (marks .exit)) ⌝ }
+{
+    let mut i = 0;
+    while i < end {
+        marks[i] = mark_if(is_under(vars, nb, n, i), marks[i]);
+        i += 1;
+    }
+}
+
+// Marks what a larger label of node n may break: itself, its parent, and what it covers, which is below `end`.
+fn mark_reach(vars: usize, nb: &[u8], n: usize, parent: usize, end: usize, marks: &mut [u8])
+    requires { ⌜ (vars ≤ mostVariables) × (end ≤ fieldLimit) × (end ≤ length (now marks)) × (n < length (now marks)) × (parent < length (now marks)) ⌝ }
+    ensures { λ _. ⌜ MarkedReach vars (now (nb .entry)) n parent end (now (marks .entry)) (now (marks .exit)) ⌝ }
+{
+    marks[n] = 1;
+    marks[parent] = 1;
+    mark_under(vars, nb, n, end, marks);
+}
+
+fn wide(x: u16) -> usize
+    ensures { λ r. ⌜ r ≡ x ⌝ }
+{
+    x as usize
+}
+
+// The label of node n is to grow by the move `mv`, which is made by then: what it may break is marked.
+fn grow_label(m: &[u8], nb: &[u8], marks: &mut [u8], reaches: &[u16], w: Work, n: usize) -> Work
+    requires { ⌜ Valid (now m) ⌝ }
+    requires { ⌜ (n < w .nodes) × (w .nodes ≤ mostNodes) × (w .high ≤ w .nodes) × (parentIn (now m) (now nb) n < w .nodes) × (rowIn (now reaches) n ≤ w .nodes) ⌝ }
+    requires { ⌜ (mostNodes ≤ length (now marks)) × (mostNodes ≤ length (now reaches)) ⌝ }
+    ensures { λ _. ⌜ MarkedReach (variableCount (now (m .entry))) (now (nb .entry)) n (parentIn (now (m .entry)) (now (nb .entry)) n) (rowIn (now (reaches .entry)) n) (now (marks .entry)) (now (marks .exit)) ⌝ }
+    ensures { λ r. ⌜ GrownWork w n (parentIn (now (m .entry)) (now (nb .entry)) n) (rowIn (now (reaches .entry)) n) r ⌝ }
+{
+    let vars = graph::variable_count(m);
+    let parent = folder::field(graph::node_size(vars), nb, n, PARENT);
+    let end = wide(reaches[n]);
+    mark_reach(vars, nb, n, parent, end, marks);
+    let low = if end == 0 { work::smaller(n, parent) } else { 0 };
+    let high = work::larger(work::larger(n, parent) + 1, end);
+    Work {
+        nodes: w.nodes,
+        len: w.len,
+        fresh: w.fresh,
+        low,
+        high: work::larger(w.high, high),
+        next: w.next,
+    }
+}
+
+// Node n tracks variable v.
+fn make_track(
+    m: &[u8],
+    nb: &mut [u8],
+    masks: &[u16],
+    marks: &mut [u8],
+    reaches: &[u16],
+    longest: usize,
+    w: Work,
+    at: Pair,
+) -> Work
+    requires { ⌜ Ready (now m) (now masks) longest w (now nb) (now marks) (now reaches) (some (track (at .node) (at .other))) ⌝ }
+    ensures { λ r. ⌜ Made (now (m .entry)) (now (masks .entry)) longest w (now (nb .entry)) (some (track (at .node) (at .other))) r (now (nb .exit)) (now (marks .exit)) (now (reaches .entry)) ⌝ }
+{
+    nodes::track(graph::variable_count(m), nb, at.node, at.other);
+    grow_label(m, nb, marks, reaches, w, at.node)
+}
+
+// Node n tracks what its cover tracks.
+fn make_adopt(
+    m: &[u8],
+    nb: &mut [u8],
+    masks: &[u16],
+    marks: &mut [u8],
+    reaches: &[u16],
+    longest: usize,
+    w: Work,
+    n: usize,
+) -> Work
+    requires { ⌜ Ready (now m) (now masks) longest w (now nb) (now marks) (now reaches) (some (adopt n)) ⌝ }
+    ensures { λ r. ⌜ Made (now (m .entry)) (now (masks .entry)) longest w (now (nb .entry)) (some (adopt n)) r (now (nb .exit)) (now (marks .exit)) (now (reaches .entry)) ⌝ }
+{
+    nodes::adopt(graph::variable_count(m), nb, n);
+    grow_label(m, nb, marks, reaches, w, n)
+}
+
+// Node n's cover is dropped, and it waits again.
+fn make_drop(
+    m: &[u8],
+    nb: &mut [u8],
+    masks: &[u16],
+    marks: &mut [u8],
+    reaches: &[u16],
+    longest: usize,
+    w: Work,
+    n: usize,
+) -> Work
+    requires { ⌜ Ready (now m) (now masks) longest w (now nb) (now marks) (now reaches) (some (drop n)) ⌝ }
+    ensures { λ r. ⌜ Made (now (m .entry)) (now (masks .entry)) longest w (now (nb .entry)) (some (drop n)) r (now (nb .exit)) (now (marks .exit)) (now (reaches .entry)) ⌝ }
+{
+    nodes::become_kind(graph::variable_count(m), nb, n, WAITING, 0);
+    marks[n] = 0;
+    Work {
+        nodes: w.nodes,
+        len: w.len,
+        fresh: w.fresh,
+        low: n,
+        high: work::larger(w.high, n),
+        next: work::smaller(w.next, n),
+    }
+}
+
+// Node n is covered by the node c.
+fn make_cover(
+    m: &[u8],
+    nb: &mut [u8],
+    masks: &[u16],
+    marks: &mut [u8],
+    reaches: &mut [u16],
+    longest: usize,
+    w: Work,
+    at: Pair,
+) -> Work
+    requires { ⌜ Ready (now m) (now masks) longest w (now nb) (now marks) (now reaches) (some (coverBy (at .node) (at .other))) ⌝ }
+    ensures { λ r. ⌜ Made (now (m .entry)) (now (masks .entry)) longest w (now (nb .entry)) (some (coverBy (at .node) (at .other))) r (now (nb .exit)) (now (marks .exit)) (now (reaches .exit)) ⌝ }
+{
+    let vars = graph::variable_count(m);
+    let n = at.node;
+    let c = at.other;
+    nodes::become_kind(vars, nb, n, COVERED, c);
+    nodes::put_field(vars, nb, n, STATE + vars, c);
+    marks[n] = 1;
+    reaches[c] = work::larger(wide(reaches[c]), n + 1) as u16;
+    work::grown_work(w.nodes, w.len, MOST_NODES, n)
+}
+
+// Node n becomes a target.
+fn make_target(
+    m: &[u8],
+    nb: &mut [u8],
+    masks: &[u16],
+    marks: &mut [u8],
+    reaches: &[u16],
+    longest: usize,
+    w: Work,
+    n: usize,
+) -> Work
+    requires { ⌜ Ready (now m) (now masks) longest w (now nb) (now marks) (now reaches) (some (reach n)) ⌝ }
+    ensures { λ r. ⌜ Made (now (m .entry)) (now (masks .entry)) longest w (now (nb .entry)) (some (reach n)) r (now (nb .exit)) (now (marks .exit)) (now (reaches .entry)) ⌝ }
+{
+    nodes::become_kind(graph::variable_count(m), nb, n, TARGET, 0);
+    marks[n] = 1;
+    work::grown_work(w.nodes, w.len, n, n)
+}
+
+// Node n is expanded.
+fn make_expanded(
+    m: &[u8],
+    nb: &mut [u8],
+    masks: &[u16],
+    marks: &mut [u8],
+    reaches: &[u16],
+    longest: usize,
+    w: Work,
+    n: usize,
+) -> Work
+    requires { ⌜ Ready (now m) (now masks) longest w (now nb) (now marks) (now reaches) (some (expand n)) ⌝ }
+    ensures { λ r. ⌜ Made (now (m .entry)) (now (masks .entry)) longest w (now (nb .entry)) (some (expand n)) r (now (nb .exit)) (now (marks .exit)) (now (reaches .entry)) ⌝ }
+{
+    let vars = graph::variable_count(m);
+    let mut state = [0i64; MOST_EXPRESSIONS];
+    wants::state_of(m, nb, n, &mut state);
+    let cs = folder::body(m, 3);
+    let commands = folder::count_of(4, cs);
+    let cost = nodes::cost_of(cs, &state, commands);
+    nodes::put_children(
+        vars,
+        cs,
+        folder::body(m, 4),
+        &state,
+        commands,
+        n,
+        w.nodes,
+        nb,
+    );
+    nodes::become_parent(vars, nb, n, w.nodes);
+    marks[n] = 1;
+    let len = w.len + (graph::node_size(vars) * cost.births + cost.bytes);
+    work::grown_work(w.nodes + cost.births, len, n, n)
+}
+
+// The move is made.
+pub fn make(
+    m: &[u8],
+    nb: &mut [u8],
+    masks: &[u16],
+    marks: &mut [u8],
+    reaches: &mut [u16],
+    longest: usize,
+    w: Work,
+    mv: Move,
+) -> Work
+    requires { ⌜ Ready (now m) (now masks) longest w (now nb) (now marks) (now reaches) (told mv) ⌝ }
+    requires { ⌜ there (told mv) ≡ true ⌝ }
+    ensures { λ r. ⌜ Made (now (m .entry)) (now (masks .entry)) longest w (now (nb .entry)) (told mv) r (now (nb .exit)) (now (marks .exit)) (now (reaches .exit)) ⌝ }
+{
+    match mv {
+        Move::Track(node, other) => {
+            make_track(
+                m,
+                nb,
+                masks,
+                marks,
+                reaches,
+                longest,
+                w,
+                Pair { node, other },
+            )
+        }
+        Move::Adopt(n) => make_adopt(m, nb, masks, marks, reaches, longest, w, n),
+        Move::Drop(n) => make_drop(m, nb, masks, marks, reaches, longest, w, n),
+        Move::Cover(node, other) => {
+            make_cover(
+                m,
+                nb,
+                masks,
+                marks,
+                reaches,
+                longest,
+                w,
+                Pair { node, other },
+            )
+        }
+        Move::Reach(n) => make_target(m, nb, masks, marks, reaches, longest, w, n),
+        Move::Expand(n) => make_expanded(m, nb, masks, marks, reaches, longest, w, n),
+        Move::Nothing => w,
+    }
+}
