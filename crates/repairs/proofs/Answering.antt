@@ -16,7 +16,7 @@ use Rattle.model.specs.Model.{Model, modelOf}
 use Rattle.graph.specs.Simulation.{kindOf}
 use Rattle.building.specs.First.{_orelse_, there, onward}
 use Rattle.building.specs.Building.{Building}
-use Rattle.building.specs.Moves.{Move, track, adopt, drop, truthWants, guardsWant, resultsWant, expandedWants, repairAs, repair}
+use Rattle.building.specs.Moves.{Move, track, adopt, drop, truthWants, guardsWant, resultsWant, expandedWants, covered, adopted, repairAs, repair}
 use Rattle.building.specs.Kept.{Kept}
 use Rattle.building.specs.Working.{Settled}
 use Rattle.building.proofs.FirstLaws.{nothing, orelse-none, onward-some}
@@ -37,21 +37,18 @@ unfolding onward
 tracks-some n v d = rw (found-some d) refl
 
 -- ---- an expanded node
-module _ {m : List ℕ} {nodes : ℕ} {nb : List ℕ} (H : Held m nodes nb) {n : ℕ} (l : n < nodes) (k : heldIn m nodes nb .kind n ≡ Kind.expanded) {v : ℕ} (e : found v ≡ (ownIn m nb n orelse resultsIn m nb n)) where
-  wants-are : found v ≡ expandedWants (modelOf m) (heldIn m nodes nb) n
+module _ {m : List ℕ} {nodes : ℕ} {nb : List ℕ} (H : Held m nodes nb) {n : ℕ} (l : n < nodes) (k : heldIn m nodes nb .kind n ≡ Kind.expanded) {o : Option ℕ} (e : o ≡ (ownIn m nb n orelse resultsIn m nb n)) where
+  wants-are : o ≡ expandedWants (modelOf m) (heldIn m nodes nb) n
   wants-are = e ∙ sym (expanded-here H l k)
 
-  pub expanded-none : v ≡ noVariable → none ≡ repairAs (modelOf m) (heldIn m nodes nb) n Kind.expanded
-  expanded-none q = tracks-none n v q ∙ ap (λ (o : Option ℕ). onward o (λ w. some (track n w))) wants-are
-
-  pub expanded-some : (v ≡ noVariable → ⊥) → some (track n v) ≡ repairAs (modelOf m) (heldIn m nodes nb) n Kind.expanded
-  expanded-some d = tracks-some n v d ∙ ap (λ (o : Option ℕ). onward o (λ w. some (track n w))) wants-are
+  pub expanded-repair : {r : Option Move} → r ≡ onward o (λ w. some (track n w)) → r ≡ repairAs (modelOf m) (heldIn m nodes nb) n Kind.expanded
+  expanded-repair q = q ∙ ap (λ (p : Option ℕ). onward p (λ w. some (track n w))) wants-are
 
   -- Its children want nothing.
-  pub results-none : v ≡ noVariable → resultsWant (modelOf m) (heldIn m nodes nb) n ≡ none
+  pub results-none : o ≡ none → resultsWant (modelOf m) (heldIn m nodes nb) n ≡ none
   results-none q =
       orelse-none (truthWants (modelOf m) (heldIn m nodes nb) n (modelOf m .target)) (resultsWant (modelOf m) (heldIn m nodes nb) n)
-      (orelse-none (guardsWant (modelOf m) (heldIn m nodes nb) n) _ (sym wants-are ∙ found-none q) .1) .1
+      (orelse-none (guardsWant (modelOf m) (heldIn m nodes nb) n) _ (sym wants-are ∙ q) .1) .1
 
 -- Guards and target are not asked for where they want nothing.
 pub unasked : (m : List ℕ) (nodes : ℕ) (nb : List ℕ) (n : ℕ) → n < nodes → {asked : Bool}
@@ -59,22 +56,22 @@ pub unasked : (m : List ℕ) (nodes : ℕ) (nb : List ℕ) (n : ℕ) → n < nod
 unasked m nodes nb n l h e = own-none m nodes nb l (h e .0) (h e .1)
 
 -- ---- a target
-pub target-repair : (m : List ℕ) (nodes : ℕ) (nb : List ℕ) (n : ℕ) → n < nodes → {v : ℕ} {r : Option Move} → found v ≡ truthWantsIn m nb n (modelOf m .target) → r ≡ onward (found v) (λ w. some (track n w))
+pub target-repair : (m : List ℕ) (nodes : ℕ) (nb : List ℕ) (n : ℕ) → n < nodes → {o : Option ℕ} {r : Option Move} → o ≡ truthWantsIn m nb n (modelOf m .target) → r ≡ onward o (λ w. some (track n w))
     → r ≡ repairAs (modelOf m) (heldIn m nodes nb) n Kind.target
-target-repair m nodes nb n l e p = p ∙ ap (λ (o : Option ℕ). onward o (λ w. some (track n w))) (e ∙ sym (truth-here m nodes nb n l (modelOf m .target)))
+target-repair m nodes nb n l e p = p ∙ ap (λ (q : Option ℕ). onward q (λ w. some (track n w))) (e ∙ sym (truth-here m nodes nb n l (modelOf m .target)))
 
 -- ---- a covered node
-fault-drop : (n : ℕ) (a b : Bool) → pick a (pick b 0 24) 23 ≡ 23 → some (drop n) ≡ pick a (pick b none (some (adopt n))) (some (drop n))
+fault-drop : (n : ℕ) (a b : Bool) → _≡_ {A = ℕ} (pick a (pick b 0 24) 23) 23 → some (drop n) ≡ pick a (pick b none (some (adopt n))) (some (drop n))
 fault-drop n true true e = absurd (omega arith)
 fault-drop n true false e = absurd (omega arith)
 fault-drop n false b e = refl
 
-fault-adopt : (n : ℕ) (a b : Bool) → pick a (pick b 0 24) 23 ≡ 24 → some (adopt n) ≡ pick a (pick b none (some (adopt n))) (some (drop n))
+fault-adopt : (n : ℕ) (a b : Bool) → _≡_ {A = ℕ} (pick a (pick b 0 24) 23) 24 → some (adopt n) ≡ pick a (pick b none (some (adopt n))) (some (drop n))
 fault-adopt n true true e = absurd (omega arith)
 fault-adopt n true false e = refl
 fault-adopt n false b e = absurd (omega arith)
 
-fault-nothing : (n : ℕ) (a b : Bool) → (pick a (pick b 0 24) 23 ≡ 23 → ⊥) → (pick a (pick b 0 24) 23 ≡ 24 → ⊥) → none ≡ pick a (pick b none (some (adopt n))) (some (drop n))
+fault-nothing : (n : ℕ) (a b : Bool) → (_≡_ {A = ℕ} (pick a (pick b 0 24) 23) 23 → ⊥) → (_≡_ {A = ℕ} (pick a (pick b 0 24) 23) 24 → ⊥) → none ≡ pick a (pick b none (some (adopt n))) (some (drop n))
 fault-nothing n true true p q = refl
 fault-nothing n true false p q = absurd (q refl)
 fault-nothing n false b p q = absurd (p refl)
@@ -137,14 +134,14 @@ found-move {o = none} e = absurd (false≢true e)
 found-move {o = some a} e = (a, refl)
 
 -- Marks stay where there is a move.
-pub marks-stay : {A : Type 0} {t : Bool} {o : Option A} (marks other : List ℕ) → t ≡ there o → t ≡ true → marks ≡ pick (there o) marks other
+pub marks-stay : {t b : Bool} (marks other : List ℕ) → t ≡ b → t ≡ true → marks ≡ pick b marks other
 marks-stay marks other e h = rw (sym e ∙ h) refl
 
 -- A repair concerns the node that it is for.
 repair-node : (M : Model) (B : Building) (n h : ℕ) (κ : Kind) (a : Move) → repairAs M B n κ ≡ some a → nodeOf h (some a) ≡ n
 repair-node M B n h Kind.waiting a e = nothing e
 repair-node M B n h Kind.expanded a e = let w = onward-some (expandedWants M B n) (λ v. some (track n v)) a e in ap (nodeOf h) (sym (w .2))
-repair-node M B n h Kind.covered a e = go _ _ e
+repair-node M B n h Kind.covered a e = go (covered M B n) (adopted M B n) e
   where
     go : (x y : Bool) → pick x (pick y none (some (adopt n))) (some (drop n)) ≡ some a → nodeOf h (some a) ≡ n
     go true true q = nothing q

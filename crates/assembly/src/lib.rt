@@ -1,0 +1,157 @@
+// Document 02, 2.5: a graph built in a lent slice. Row 35; then the moves, the edges, the contents, and the values.
+use folder::Outcome;
+use folder::Refusal;
+use graph::MOST_NODES;
+ghost use mathlib.Core.Path.{_≡_};
+ghost use mathlib.Core.List.{List, _++_};
+ghost use Prim.Native.Nat.{ℕ, _+_, _*_, _<_, _≤_, min};
+ghost use lib.ListN.{length, getD, drop};
+ghost use Rattle.folder.specs.Fields.{field4Limit};
+ghost use Rattle.folder.specs.Tab.{fill};
+ghost use Rattle.folder.specs.Table.{outcome};
+ghost use Rattle.model.specs.Limits.{mostVariables};
+ghost use Rattle.model.specs.Layout.{variableCount};
+ghost use Rattle.model.specs.Model.{Model, modelOf};
+ghost use Rattle.model.specs.Valid.{Valid};
+ghost use Rattle.graph.specs.Limits.{leastBytes, mostBytes, mostNodes};
+ghost use Rattle.graph.specs.Simulation.{nodeSize, nodeCount, simulationOf};
+ghost use Rattle.graph.specs.Figures.{over};
+ghost use Rattle.graph.specs.Valid as Graphs;
+ghost use Rattle.building.specs.Building.{Building};
+ghost use Rattle.building.specs.Length.{edgesBefore};
+ghost use Rattle.building.specs.Built.{built};
+ghost use Rattle.building.specs.Values.{roundsOf};
+ghost use Rattle.put.specs.Put.{Stays};
+ghost use Rattle.held.specs.Held.{heldIn};
+ghost use Rattle.wants.specs.Standing.{Held};
+ghost use Rattle.work.specs.Working.{limitOf, Grown};
+ghost use Rattle.assembly.specs.Stub.{bodiesOf};
+ghost use Rattle.assembly.specs.Stages.{contentsBy, bodiesBy};
+ghost use Rattle.assembly.specs.Build.{limitFor, BuildRight, buildRows, bytesFor};
+
+// STUBS of crates builder, finish, lowering
+pub struct Size {
+    pub nodes: usize,
+    pub len: usize,
+}
+fn build(m: &[u8], longest: usize, nb: &mut [u8]) -> Size
+    requires { ⌜ Valid (now m) ⌝ }
+    requires { ⌜ (leastBytes + nodeSize (variableCount (now m)) ≤ longest) × (longest ≤ leastBytes + length (now nb)) × (longest ≤ mostBytes) ⌝ }
+    ensures { λ r. ⌜ heldIn (now (m .entry)) (r .nodes) (now (nb .exit)) ≡ built (modelOf (now (m .entry))) (limitOf longest) ⌝ }
+    ensures { λ r. ⌜ Grown (now (m .entry)) longest (r .nodes) (r .len) (now (nb .exit)) ⌝ }
+    ensures { λ r. ⌜ Stays 0 (nodeSize (variableCount (now (m .entry))) * (r .nodes)) (now (nb .entry)) (now (nb .exit)) ⌝ }
+{
+    Size { nodes: 0, len: 0 }
+}
+fn finish(m: &[u8], nodes: usize, nb: &mut [u8])
+    requires { ⌜ Held (now m) nodes (now nb) ⌝ }
+    requires { ⌜ nodeSize (variableCount (now m)) * nodes + edgesBefore (modelOf (now m)) (heldIn (now m) nodes (now nb)) nodes ≤ length (now nb) ⌝ }
+    ensures { λ _. ⌜ now (nb .exit) ≡ over (bodiesOf (modelOf (now (m .entry))) (heldIn (now (m .entry)) nodes (now (nb .entry)))) (now (nb .entry)) ⌝ }
+{
+}
+fn lower(m: &[u8], g: &[u8], rounds: usize, row: &mut [u32])
+    requires { ⌜ Graphs.Valid (now m) (now g) ⌝ }
+    requires { ⌜ nodeCount (modelOf (now m)) (now g) ≤ length (now row) ⌝ }
+    ensures { λ _. ⌜ now (row .exit) ≡ fill (nodeCount (modelOf (now (m .entry))) (now (g .entry))) (roundsOf (modelOf (now (m .entry))) (simulationOf (modelOf (now (m .entry))) (now (g .entry))) rounds) (now (row .entry)) ⌝ }
+{
+}
+// END OF STUBS
+
+// The length of a graph, or why there is none.
+pub enum BuildAnswer {
+    Built(usize),
+    Refused(Refusal),
+}
+
+const LEAST_BYTES: usize = 16;
+
+const MOST_BYTES: usize = 1048576;
+
+const MOST_ROUNDS: usize = 1000;
+
+// Row 35.
+pub fn build_check(m: &[u8], rounds: usize, out: &[u8]) -> Outcome
+    requires { ⌜ Valid (now m) ⌝ }
+    ensures { λ r. ⌜ r ≡ outcome (buildRows (modelOf (now (m .entry))) rounds (now (out .entry))) ⌝ }
+{
+    let one = LEAST_BYTES + graph::node_size(graph::variable_count(m));
+    if out.len() < one {
+        return folder::refuse(35, 0);
+    }
+    if rounds > MOST_ROUNDS {
+        return folder::refuse(35, 1);
+    }
+    Outcome::Accepted
+}
+
+// The contents of a folder whose bodies have a and b bytes.
+fn put_contents(out: &mut [u8], a: usize, b: usize)
+    requires { ⌜ (leastBytes ≤ length (now out)) × (leastBytes + a < field4Limit) × (b < field4Limit) ⌝ }
+    ensures { λ _. ⌜ now (out .exit) ≡ contentsBy a b ++ drop leastBytes (now (out .entry)) ⌝ }
+{
+    put::put_word(out, 0, LEAST_BYTES);
+    put::put_word(out, 4, a);
+    put::put_word(out, 8, LEAST_BYTES + a);
+    put::put_word(out, 12, b);
+}
+
+fn wide(x: u32) -> usize
+    ensures { λ r. ⌜ (r ≡ x) × (r < field4Limit) ⌝ }
+{
+    x as usize
+}
+
+// Each node's value is put into its record.
+fn put_values(vars: usize, nodes: usize, row: &[u32], nb: &mut [u8])
+    requires { ⌜ (vars ≤ mostVariables) × (nodes ≤ mostNodes) × (nodes ≤ length (now row)) × (nodeSize vars * nodes ≤ length (now nb)) ⌝ }
+    ensures { λ _. ⌜ ((M : Model) (B : Building) (value : ℕ → ℕ) (rest : List ℕ) → vars ≡ M .variables → nodes ≡ B .nodes → now (nb .entry) ≡ over (bodiesBy M B value) rest → now (nb .exit) ≡ over (bodiesBy M B (λ n. getD (now (row .entry)) n 0)) rest) ⌝ }
+{
+    let size = graph::node_size(vars);
+    let mut n = 0;
+    while n < nodes {
+        put::put_word(nb, size * n + 4, wide(row[n]));
+        n += 1;
+    }
+}
+
+fn smaller(a: usize, b: usize) -> usize
+    ensures { λ r. ⌜ r ≡ min a b ⌝ }
+{
+    if a < b { a } else { b }
+}
+
+// The graph with all values at S: the moves, the edges, the contents.
+fn build_certain(m: &[u8], out: &mut [u8]) -> Size
+    requires { ⌜ Valid (now m) ⌝ }
+    requires { ⌜ BuildRight (modelOf (now m)) 0 (now out) ⌝ }
+    ensures { λ r. ⌜ r .nodes ≡ built (modelOf (now (m .entry))) (limitFor (now (out .entry))) .nodes ⌝ }
+    ensures { λ r. ⌜ r .len ≡ length (bytesFor (modelOf (now (m .entry))) 0 (now (out .entry))) ⌝ }
+    ensures { λ _. ⌜ now (out .exit) ≡ over (bytesFor (modelOf (now (m .entry))) 0 (now (out .entry))) (now (out .entry)) ⌝ }
+{
+    let longest = smaller(out.len(), MOST_BYTES);
+    let size = build(m, longest, &mut out[LEAST_BYTES..]);
+    finish(m, size.nodes, &mut out[LEAST_BYTES..]);
+    let nodes = graph::node_size(graph::variable_count(m)) * size.nodes;
+    put_contents(out, nodes, size.len - LEAST_BYTES - nodes);
+    size
+}
+
+// The graph that is built stands first in the slice; its length.
+pub fn build_fill(m: &[u8], rounds: usize, out: &mut [u8]) -> usize
+    requires { ⌜ Valid (now m) ⌝ }
+    requires { ⌜ BuildRight (modelOf (now m)) rounds (now out) ⌝ }
+    ensures { λ r. ⌜ r ≡ length (bytesFor (modelOf (now (m .entry))) rounds (now (out .entry))) ⌝ }
+    ensures { λ _. ⌜ now (out .exit) ≡ over (bytesFor (modelOf (now (m .entry))) rounds (now (out .entry))) (now (out .entry)) ⌝ }
+{
+    let size = build_certain(m, out);
+    let len = size.len;
+    let mut row = [0u32; MOST_NODES];
+    lower(m, &out[..len], rounds, &mut row);
+    put_values(
+        graph::variable_count(m),
+        size.nodes,
+        &row,
+        &mut out[LEAST_BYTES..],
+    );
+    len
+}

@@ -1,0 +1,76 @@
+-- Marks set in a row: one by one as the code goes through the nodes, and at single places.
+-- Assumes nothing.
+use Prim.Native.Nat.{ℕ, suc, _+_, _<_, _≤_}
+use mathlib.Core.Path.{_≡_, refl, sym, ap, _∙_}
+use mathlib.Core.Bool.{Bool, true, false, _&&_}
+use mathlib.Core.List.{List}
+use native.Mathlib.Decide.{decLt, ℕ-discrete}
+use native.Mathlib.Omega.{arith}
+use lib.Dec.{eqb}
+use lib.ListN.{length, getD, set, length-set}
+use lib.Seq.{getD-set-same, getD-set-other}
+use Rattle.folder.specs.Pick.{pick}
+use Rattle.folder.specs.Contents.{field}
+use Rattle.graph.specs.Simulation.{nodeSize}
+use Rattle.held.specs.Held.{kindField, coverField}
+use Rattle.making.specs.Marking.{isUnder, markIf, MarkedUnder, MarkedReach}
+
+-- ---- what the code reads of node i
+pub under-is : (vars : ℕ) (nb : List ℕ) (n i : ℕ) {size kind cover : ℕ} → size ≡ nodeSize vars → kind ≡ field size nb i kindField → cover ≡ field size nb i coverField
+    → (eqb kind 2 && eqb cover n) ≡ isUnder vars nb n i
+under-is vars nb n i p a b = λ j. eqb ((a ∙ ap (λ (s : ℕ). field s nb i kindField) p) j) 2 && eqb ((b ∙ ap (λ (s : ℕ). field s nb i coverField) p) j) n
+
+-- ---- the nodes that n covers, upward
+module _ (vars : ℕ) (nb : List ℕ) (n : ℕ) where
+  pub under-start : (old : List ℕ) → MarkedUnder vars nb n 0 old old
+  under-start old = record { long = refl; below = λ k l. absurd (omega arith); later = λ k l. refl }
+
+  pub under-next : {i : ℕ} {old new : List ℕ} {t : Bool} {x : ℕ} → MarkedUnder vars nb n i old new → i < length new → t ≡ isUnder vars nb n i → x ≡ markIf t (getD new i 0)
+      → MarkedUnder vars nb n (i + 1) old (set new i x)
+  under-next {i} {old} {new} {t} {x} u l e q = record {
+    long = length-set new i x ∙ u .long;
+    below = λ k h. go k h (ℕ-discrete k i);
+    later = λ k h. getD-set-other new i k x 0 (λ z. omega arith) ∙ u .later k (omega arith);
+  }
+    where
+      go : (k : ℕ) → k < i + 1 → Dec (k ≡ i) → getD (set new i x) k 0 ≡ markIf (isUnder vars nb n k) (getD old k 0)
+      go k h (yes z) = rw z (getD-set-same new i x 0 l ∙ q ∙ (λ j. markIf (e j) (u .later i (omega arith) j)))
+      go k h (no d) = getD-set-other new i k x 0 d ∙ u .below k (omega arith)
+
+  pub under-over : {i end : ℕ} {old new : List ℕ} → MarkedUnder vars nb n i old new → i ≤ end → end ≤ i → MarkedUnder vars nb n end old new
+  under-over {i} {end} u p q = let e : i ≡ end = omega arith in rw (← e) u
+
+-- ---- a mark that is set
+none-set : (row : List ℕ) (n k : ℕ) → n < length row → getD (set row n 1) k 0 ≡ 0 → (getD row k 0 ≡ 0) × (k ≡ n → ⊥)
+none-set row n k l h = go (ℕ-discrete k n)
+  where
+    go : Dec (k ≡ n) → (getD row k 0 ≡ 0) × (k ≡ n → ⊥)
+    go (yes e) = absurd (let z : _≡_ {A = ℕ} 1 0 = sym (ap (λ (j : ℕ). getD (set row n 1) j 0) e ∙ getD-set-same row n 1 0 l) ∙ h in omega arith)
+    go (no d) = (sym (getD-set-other row n k 1 0 d) ∙ h, d)
+
+unmarked-if : (t : Bool) (x : ℕ) → markIf t x ≡ 0 → (t ≡ false) × (x ≡ 0)
+unmarked-if true x e = absurd (omega arith)
+unmarked-if false x e = (refl, e)
+
+-- ---- the node, its parent, and what it covers
+pub reach-marked : (vars : ℕ) (nb : List ℕ) (n parent : ℕ) {end : ℕ} (old : List ℕ) {new : List ℕ} → n < length old → parent < length old → MarkedUnder vars nb n end (set (set old n 1) parent 1) new → MarkedReach vars nb n parent end old new
+reach-marked vars nb n parent {end} old {new} p q u = record {
+  long = u .long ∙ length-set (set old n 1) parent 1 ∙ length-set old n 1;
+  unmarked = λ k e. go k e (decLt k end);
+  same = λ k a b c. u .later k c ∙ getD-set-other (set old n 1) parent k 1 0 b ∙ getD-set-other old n k 1 0 a;
+}
+  where
+    two : (k : ℕ) → getD (set (set old n 1) parent 1) k 0 ≡ 0 → (getD old k 0 ≡ 0) × (k ≡ n → ⊥) × (k ≡ parent → ⊥)
+    two k e =
+        let a = none-set (set old n 1) parent k (omega (arith, length-set old n 1)) e in
+        let b = none-set old n k p (a .0) in
+        (b .0, b .1, a .1)
+
+    go : (k : ℕ) → getD new k 0 ≡ 0 → Dec (k < end) → (getD old k 0 ≡ 0) × (k ≡ n → ⊥) × (k ≡ parent → ⊥) × (k < end → isUnder vars nb n k ≡ false)
+    go k e (yes l) =
+        let a = unmarked-if (isUnder vars nb n k) _ (sym (u .below k l) ∙ e) in
+        let b = two k (a .1) in
+        (b .0, b .1, b .2, λ h. a .0)
+    go k e (no d) =
+        let b = two k (sym (u .later k (omega arith)) ∙ e) in
+        (b .0, b .1, b .2, λ h. absurd (d h))
