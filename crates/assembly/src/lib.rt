@@ -7,20 +7,17 @@ ghost use mathlib.Core.List.{List, _++_};
 ghost use Prim.Native.Nat.{ℕ, _+_, _*_, _<_, _≤_, min};
 ghost use lib.ListN.{length, getD, drop};
 ghost use Rattle.folder.specs.Fields.{field4Limit};
-ghost use Rattle.folder.specs.Tab.{fill};
 ghost use Rattle.folder.specs.Table.{outcome};
 ghost use Rattle.model.specs.Limits.{mostVariables};
 ghost use Rattle.model.specs.Layout.{variableCount};
 ghost use Rattle.model.specs.Model.{Model, modelOf};
 ghost use Rattle.model.specs.Valid.{Valid};
 ghost use Rattle.graph.specs.Limits.{leastBytes, mostBytes, mostNodes};
-ghost use Rattle.graph.specs.Simulation.{nodeSize, nodeCount, simulationOf};
+ghost use Rattle.graph.specs.Simulation.{nodeSize};
 ghost use Rattle.graph.specs.Figures.{over};
-ghost use Rattle.graph.specs.Valid as Graphs;
 ghost use Rattle.building.specs.Building.{Building};
 ghost use Rattle.building.specs.Length.{edgesBefore};
 ghost use Rattle.building.specs.Built.{built};
-ghost use Rattle.building.specs.Values.{roundsOf};
 ghost use Rattle.put.specs.Put.{Stays};
 ghost use Rattle.held.specs.Held.{heldIn};
 ghost use Rattle.wants.specs.Standing.{Held};
@@ -29,7 +26,7 @@ ghost use Rattle.assembly.specs.Stub.{bodiesOf};
 ghost use Rattle.assembly.specs.Stages.{contentsBy, bodiesBy};
 ghost use Rattle.assembly.specs.Build.{limitFor, BuildRight, buildRows, bytesFor};
 
-// STUBS of crates builder, finish, lowering
+// STUBS of crates builder, finish
 pub struct Size {
     pub nodes: usize,
     pub len: usize,
@@ -47,12 +44,6 @@ fn finish(m: &[u8], nodes: usize, nb: &mut [u8])
     requires { ⌜ Held (now m) nodes (now nb) ⌝ }
     requires { ⌜ nodeSize (variableCount (now m)) * nodes + edgesBefore (modelOf (now m)) (heldIn (now m) nodes (now nb)) nodes ≤ length (now nb) ⌝ }
     ensures { λ _. ⌜ now (nb .exit) ≡ over (bodiesOf (modelOf (now (m .entry))) (heldIn (now (m .entry)) nodes (now (nb .entry)))) (now (nb .entry)) ⌝ }
-{
-}
-fn lower(m: &[u8], g: &[u8], rounds: usize, row: &mut [u32])
-    requires { ⌜ Graphs.Valid (now m) (now g) ⌝ }
-    requires { ⌜ nodeCount (modelOf (now m)) (now g) ≤ length (now row) ⌝ }
-    ensures { λ _. ⌜ now (row .exit) ≡ fill (nodeCount (modelOf (now (m .entry))) (now (g .entry))) (roundsOf (modelOf (now (m .entry))) (simulationOf (modelOf (now (m .entry))) (now (g .entry))) rounds) (now (row .entry)) ⌝ }
 {
 }
 // END OF STUBS
@@ -146,7 +137,7 @@ pub fn build_fill(m: &[u8], rounds: usize, out: &mut [u8]) -> usize
     let size = build_certain(m, out);
     let len = size.len;
     let mut row = [0u32; MOST_NODES];
-    lower(m, &out[..len], rounds, &mut row);
+    lowering::lower(m, &out[..len], rounds, &mut row);
     put_values(
         graph::variable_count(m),
         size.nodes,

@@ -1,1 +1,3 @@
-
+pub mod LaidLaws
+pub mod FinalLaws
+pub mod EdgeLaws

@@ -1,2 +1,4 @@
 pub mod Counted
 pub mod Lowest
+pub mod Settling
+pub mod Opening

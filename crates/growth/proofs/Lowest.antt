@@ -8,17 +8,19 @@ use mathlib.Core.List.{List}
 use native.Mathlib.Omega.{arith}
 use borrow.Author.Tests.{not-true, not-false}
 use Rattle.mdp.specs.Kinds.{Kind}
+use Rattle.folder.specs.Fields.{fieldLimit}
 use Rattle.folder.specs.Scan.{firstBad}
 use Rattle.folder.proofs.ScanLaws.{found}
 use Rattle.model.specs.Layout.{variableCount}
-use Rattle.model.specs.Model.{Model, modelOf}
-use Rattle.building.specs.First.{given, onward, first}
+use Rattle.model.specs.Limits.{mostVariables}
+use Rattle.model.specs.Model.{modelOf}
+use Rattle.building.specs.First.{_orelse_, given, onward, first}
 use Rattle.building.specs.Building.{Building}
-use Rattle.building.specs.Moves.{waits, canCover, lowestWaiting, lowestCover}
+use Rattle.building.specs.Moves.{Move, coverBy, Limit, waits, canCover, lowestWaiting, lowestCover, opening, growth}
 use Rattle.building.specs.Working.{HintRight, NextRight}
 use Rattle.building.proofs.FirstLaws.{first-here, first-nowhere}
 use Rattle.held.specs.Held.{kindField, heldIn}
-use Rattle.wants.specs.Standing.{hintIn}
+use Rattle.wants.specs.Standing.{hintIn, Held}
 use Rattle.covers.specs.Covers.{isWaiting, canCoverIn, waitsIn, hintAt}
 use Rattle.growth.proofs.Counted.{kind-here, can-here}
 
@@ -66,7 +68,7 @@ module _ (m : List ℕ) (nodes : ℕ) (nb : List ℕ) where
       unfolding lowestWaiting
       waiting-none q = first-nowhere (λ n. waits (B .kind n) n) nodes (λ i l. waits-not i (omega arith) l)
 
-      waiting-within : (r ≡ nodes → ⊥) → r < nodes
+      pub waiting-within : (r ≡ nodes → ⊥) → r < nodes
       waiting-within d = let w = found (λ k. not (waitsIn vars nb k)) nodes .within in omega (arith, e)
 
       pub waiting-some : r < nodes → lowestWaiting (modelOf m) (heldIn m nodes nb) ≡ some r
@@ -111,3 +113,38 @@ module _ (m : List ℕ) (nodes : ℕ) (nb : List ℕ) where
         pub cover-some : r < nodes → lowestCover (modelOf m) (heldIn m nodes nb) n ≡ some r
         unfolding lowestCover
         cover-some h = first-here (λ c. given (canCover (modelOf m) B n c) (some c)) nodes r r h (λ c k. given-not c k (omega arith)) (given-so h)
+
+-- ---- what the scans ask
+module _ {m : List ℕ} {nodes : ℕ} {nb : List ℕ} (H : Held m nodes nb) {vars : ℕ} (p : vars ≡ variableCount m) (q : vars ≤ mostVariables) where
+  pub waiting-asked : {next : ℕ} → next ≤ nodes → NextRight (modelOf m) (heldIn m nodes nb) next
+      → ((vars ≤ mostVariables) × (nodes ≤ fieldLimit) × (next ≤ nodes)) × ((i : ℕ) → i < next → waitsIn vars nb i ≡ false)
+  waiting-asked l R = ((q, omega (arith, H .kept .few), l), none-waits m nodes nb p l R)
+
+  pub cover-asked : {n : ℕ} → n ≡ firstBad (λ i. not (waitsIn vars nb i)) nodes → (n ≡ nodes → ⊥) → HintRight (modelOf m) (heldIn m nodes nb) (hintIn m nb) nodes
+      → ((vars ≤ mostVariables) × (nodes ≤ fieldLimit) × (n ≤ fieldLimit) × (hintAt vars nb n ≤ nodes)) × ((c : ℕ) → c < hintAt vars nb n → canCoverIn vars nb n c ≡ false)
+  cover-asked {n} e d R =
+      let l = waiting-within m nodes nb p e d in
+      let f = H .kept .few in
+      ((q, omega arith, omega arith, hint-within m nodes nb p n l R), none-covers m nodes nb p n l R (omega arith))
+
+-- ---- what becomes of the lowest node that waits
+module _ (m : List ℕ) (nodes : ℕ) (nb : List ℕ) {vars : ℕ} (p : vars ≡ variableCount m) {n : ℕ} (e : n ≡ firstBad (λ i. not (waitsIn vars nb i)) nodes) where
+  -- None waits.
+  pub grows-none : n ≡ nodes → (P : Limit) → none ≡ onward (lowestWaiting (modelOf m) (heldIn m nodes nb)) (growth (modelOf m) P (heldIn m nodes nb))
+  unfolding onward
+  grows-none q P = rw (waiting-none m nodes nb p e q) refl
+
+  module _ (d : n ≡ nodes → ⊥) {c : ℕ} (k : c ≡ firstBad (λ i. not (canCoverIn vars nb n i)) nodes) (P : Limit) where
+    there : n < nodes
+    there = waiting-within m nodes nb p e d
+
+    -- It has a cover.
+    pub grows-cover : c < nodes → some (coverBy n c) ≡ onward (lowestWaiting (modelOf m) (heldIn m nodes nb)) (growth (modelOf m) P (heldIn m nodes nb))
+    unfolding onward _orelse_
+    grows-cover h = rw (waiting-some m nodes nb p e there, cover-some m nodes nb p n there k h) refl
+
+    -- It has none.
+    pub grows-open : nodes ≤ c → {o : Option Move} → o ≡ opening (modelOf m) P (heldIn m nodes nb) n
+        → o ≡ onward (lowestWaiting (modelOf m) (heldIn m nodes nb)) (growth (modelOf m) P (heldIn m nodes nb))
+    unfolding onward _orelse_
+    grows-open h q = rw (waiting-some m nodes nb p e there, cover-none m nodes nb p n there k h) q

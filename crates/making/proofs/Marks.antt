@@ -1,11 +1,12 @@
 -- Marks set in a row: one by one as the code goes through the nodes, and at single places.
 -- Assumes nothing.
-use Prim.Native.Nat.{ℕ, suc, _+_, _<_, _≤_}
+use Prim.Native.Nat.{ℕ, suc, _+_, _<_, _≤_, min}
 use mathlib.Core.Path.{_≡_, refl, sym, ap, _∙_}
 use mathlib.Core.Bool.{Bool, true, false, _&&_}
 use mathlib.Core.List.{List}
 use native.Mathlib.Decide.{decLt, ℕ-discrete}
 use native.Mathlib.Omega.{arith}
+use borrow.Author.Tests.{eq-eqb, ne-eqb}
 use lib.Dec.{eqb}
 use lib.ListN.{length, getD, set, length-set}
 use lib.Seq.{getD-set-same, getD-set-other}
@@ -74,3 +75,14 @@ reach-marked vars nb n parent {end} old {new} p q u = record {
     go k e (no d) =
         let b = two k (sym (u .later k (omega arith)) ∙ e) in
         (b .0, b .1, b .2, λ h. absurd (d h))
+
+pub reach-as : {vars vars′ n parent parent′ end end′ : ℕ} {nb old new : List ℕ} → vars ≡ vars′ → parent ≡ parent′ → end ≡ end′ → MarkedReach vars nb n parent end old new → MarkedReach vars′ nb n parent′ end′ old new
+reach-as p q e h = rw (p, q, e) at h
+
+-- ---- where the marks begin: at the lower of the two, if nothing is covered by n
+module _ {end end′ : ℕ} (e : end ≡ end′) where
+  pub low-alone : (n : ℕ) {parent parent′ low least : ℕ} → end ≡ 0 → parent ≡ parent′ → least ≡ min n parent → low ≡ least → low ≡ pick (eqb end′ 0) (min n parent′) 0
+  low-alone n z p l q = rw (eq-eqb end′ 0 (sym e ∙ z)) (q ∙ l ∙ ap (min n) p)
+
+  pub low-all : (x : ℕ) {low : ℕ} → (end ≡ 0 → ⊥) → low ≡ 0 → low ≡ pick (eqb end′ 0) x 0
+  low-all x d q = rw (ne-eqb end′ 0 (λ z. d (e ∙ z))) q

@@ -1,13 +1,12 @@
 -- The repairs, as the code answers them.
 -- Assumes nothing.
-use Prim.Native.Nat.{ℕ, _+_, _<_, _≤_}
+use Prim.Native.Nat.{ℕ, _<_}
 use mathlib.Core.Path.{_≡_, refl, sym, ap, _∙_}
 use mathlib.Core.Bool.{Bool, true, false, false≢true}
 use mathlib.Core.Option.{Option, none, some}
 use mathlib.Core.List.{List}
 use native.Mathlib.Omega.{arith}
-use borrow.Author.Tests.{eq-eqb, ne-eqb}
-use lib.ListN.{set}
+use borrow.Author.Tests.{ne-eqb}
 use Rattle.mdp.specs.Kinds.{Kind}
 use Rattle.folder.specs.Pick.{pick}
 use Rattle.expressions.specs.Limits.{noVariable}
@@ -17,12 +16,10 @@ use Rattle.graph.specs.Simulation.{kindOf}
 use Rattle.building.specs.First.{_orelse_, there, onward}
 use Rattle.building.specs.Building.{Building}
 use Rattle.building.specs.Moves.{Move, track, adopt, drop, truthWants, guardsWant, resultsWant, expandedWants, covered, adopted, repairAs, repair}
-use Rattle.building.specs.Kept.{Kept}
-use Rattle.building.specs.Working.{Settled}
 use Rattle.building.proofs.FirstLaws.{nothing, orelse-none, onward-some}
-use Rattle.held.specs.Held.{kindField, nodeIn, heldIn}
+use Rattle.held.specs.Held.{kindField, coverField, nodeIn, heldIn}
 use Rattle.wants.specs.Wants.{found, truthWantsIn, ownIn, resultsIn}
-use Rattle.wants.specs.Standing.{Held, Standing, nodeOf}
+use Rattle.wants.specs.Standing.{Held, nodeOf}
 use Rattle.wants.proofs.Answers.{found-none, found-some}
 use Rattle.covers.specs.Covers.{agreesIn, adoptedIn, faultIn}
 use Rattle.repairs.proofs.Linked.{kind-here, truth-here, covered-here, adopted-here, expanded-here, own-none}
@@ -78,7 +75,7 @@ fault-nothing n false b p q = absurd (p refl)
 
 module _ {m : List ℕ} {nodes : ℕ} {nb : List ℕ} (H : Held m nodes nb) {n : ℕ} (l : n < nodes) (k : heldIn m nodes nb .kind n ≡ Kind.covered) {vars r : ℕ} (p : vars ≡ variableCount m) (e : r ≡ faultIn vars nb n) where
   abbrev a : Bool
-  a = agreesIn (variableCount m) nb (nodeIn m nb n 1) n
+  a = agreesIn (variableCount m) nb (nodeIn m nb n coverField) n
 
   abbrev b : Bool
   b = adoptedIn (variableCount m) nb n
@@ -121,8 +118,8 @@ module _ (m : List ℕ) (nodes : ℕ) (nb : List ℕ) (n : ℕ) (l : n < nodes) 
   is-waiting x y z = kind-is ∙ (λ i. pick (ne-eqb kind 1 x i) Kind.expanded (pick (ne-eqb kind 2 y i) Kind.covered (pick (ne-eqb kind 3 z i) Kind.target Kind.waiting)))
 
 -- The repair of node n, where its kind is known.
-pub repair-by : (M : Model) (B : Building) (n : ℕ) {κ : Kind} {r : Option Move} → B .kind n ≡ κ → r ≡ repairAs M B n κ → r ≡ repair M B n
-repair-by M B n k e = e ∙ ap (repairAs M B n) (sym k)
+pub repair-by : {m : List ℕ} {nodes : ℕ} {nb : List ℕ} → Held m nodes nb → {n : ℕ} → n < nodes → {κ : Kind} {r : Option Move} → heldIn m nodes nb .kind n ≡ κ → r ≡ repairAs (modelOf m) (heldIn m nodes nb) n κ → r ≡ repair (modelOf m) (heldIn m nodes nb) n
+repair-by {m} {nodes} {nb} H {n} l k e = e ∙ ap (repairAs (modelOf m) (heldIn m nodes nb) n) (sym k)
 
 -- ---- one visit
 pub none-there : {A : Type 0} {o : Option A} → there o ≡ false → o ≡ none

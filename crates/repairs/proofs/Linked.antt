@@ -8,10 +8,9 @@ use mathlib.Core.List.{List, []}
 use native.Mathlib.Nat.{le-step, le-refl}
 use native.Mathlib.Omega.{arith}
 use lib.Dec.{eqb}
-use lib.ListN.{getD}
-use lib.IntN.{ℤ, pos}
+use lib.IntN.{pos}
 use Rattle.mdp.specs.Kinds.{Kind}
-use Rattle.folder.specs.Pick.{pick, implies}
+use Rattle.folder.specs.Pick.{implies}
 use Rattle.folder.specs.Scan.{all}
 use Rattle.folder.specs.Fields.{fieldLimit, signed16}
 use Rattle.folder.proofs.ScanLaws.{first-same as bad-same}
@@ -24,16 +23,16 @@ use Rattle.model.specs.Layout.{variableCount}
 use Rattle.model.specs.Model.{Model, modelOf, firstRecord}
 use Rattle.model.specs.Chances.{InRange}
 use Rattle.graph.specs.Simulation.{kindOf}
-use Rattle.building.specs.First.{_orelse_, given, onward, first}
+use Rattle.building.specs.First.{_orelse_, given, first}
 use Rattle.building.specs.Building.{Building, startSet, enabled, before, births, labelBy, agrees, contains, childBy}
-use Rattle.building.specs.Moves.{wantedT, wantedN, track, adopt, drop, truthWants, numberWants, guardsWant, resultWants, resultsWant, expandedWants, covered, adopted, repairAs}
+use Rattle.building.specs.Moves.{wantedT, wantedN, truthWants, numberWants, guardsWant, resultWants, resultsWant, expandedWants, covered, adopted}
 use Rattle.building.specs.Working.{ReadRight}
 use Rattle.building.proofs.OffspringLaws.{before-within}
-use Rattle.held.specs.Held.{kindField, coverField, childField, trackedField, stateField, nodeIn, stateIn, setIn, heldIn, NodeHere}
+use Rattle.held.specs.Held.{kindField, coverField, childField, stateField, nodeIn, stateIn, setIn, heldIn, NodeHere}
 use Rattle.held.proofs.Made.{counted-in}
-use Rattle.wants.specs.Wants.{truthWantsIn, numberWantsIn, guardsIn, ownIn, resultIn, childIn, branchesIn, resultsIn, childrenEnd, ReadBy, AllRead}
+use Rattle.wants.specs.Wants.{truthWantsIn, numberWantsIn, guardsIn, ownIn, resultIn, childIn, branchesIn, resultsIn, childrenEnd, AllRead}
 use Rattle.wants.specs.Standing.{readIn, Held}
-use Rattle.covers.specs.Covers.{sameAt, agreesIn, adoptedIn, faultIn}
+use Rattle.covers.specs.Covers.{sameAt, agreesIn, adoptedIn}
 
 -- ---- `first` and its connectives
 module _ {A : Type 0} where

@@ -16,17 +16,16 @@ use Rattle.model.specs.Layout.{variableCount}
 use Rattle.model.specs.Model.{Model, modelOf, firstRecord}
 use Rattle.graph.specs.Limits.{mostNodes}
 use Rattle.graph.specs.Simulation.{nodeSize}
-use Rattle.building.specs.First.{_orelse_, given, first}
+use Rattle.building.specs.First.{given, first}
 use Rattle.building.specs.Building.{Building, enabled, before, births, childBy}
-use Rattle.building.specs.Moves.{truthWants, numberWants, guardsWant, resultWants, resultsWant, expandedWants}
+use Rattle.building.specs.Moves.{numberWants, resultWants, resultsWant}
 use Rattle.building.specs.Kept.{Kept}
 use Rattle.building.specs.Working.{ReadRight, ParentRight, Settled}
-use Rattle.building.proofs.FirstLaws.{orelse-none, given-none, first-none}
+use Rattle.building.proofs.FirstLaws.{given-none, first-none}
 use Rattle.building.proofs.OffspringLaws.{before-within}
 use Rattle.building.proofs.SetLaws.{bit-there}
-use Rattle.put.specs.Put.{Stays}
 use Rattle.put.proofs.PutLaws.{stays-none}
-use Rattle.held.specs.Held.{childField, parentField, readField, nodeIn, setIn, heldIn}
+use Rattle.held.specs.Held.{childField, parentField, readField, nodeIn, heldIn}
 use Rattle.held.proofs.Made.{held-same}
 use Rattle.wants.specs.Wants.{childrenEnd}
 use Rattle.wants.specs.Standing.{readIn, parentIn, Held, Standing, Reread}
@@ -150,3 +149,15 @@ module _ {m : List ℕ} {nodes : ℕ} {old new : List ℕ} (H : Held m nodes old
           s .stays .past j (omega (arith, mul-le-mul-left (nodeSize (variableCount m)) z));
     };
   }
+
+-- As the code marks them.
+module _ {m : List ℕ} {nodes : ℕ} {nb : List ℕ} (H : Held m nodes nb) {n : ℕ} (l : n < nodes) (k : heldIn m nodes nb .kind n ≡ Kind.expanded)
+    {vars start end : ℕ} (v : vars ≡ variableCount m) (p : start ≡ nodeIn m nb n childField) (q : end ≡ childrenEnd m nb n) where
+  pub children-long : (start ≤ end) × (end ≤ fieldLimit) × (nodeSize vars * end ≤ length nb)
+  children-long =
+      let z : end ≤ nodes = omega (arith, q, end-within H l k) in
+      (omega (arith, p, q), omega (arith, H .kept .few), rw v (omega (arith, mul-le-mul-left (nodeSize (variableCount m)) z, H .long)))
+
+  pub reread-by : ReadRight (modelOf m) (heldIn m nodes nb) (readIn m nb) → ParentRight (modelOf m) (heldIn m nodes nb) (parentIn m nb) → resultsWant (modelOf m) (heldIn m nodes nb) n ≡ none
+      → {new : List ℕ} → AllMarked vars start end nb new → Reread m nodes nb new
+  reread-by R P w {new} s = reread-marked H R P l k w p q (subst (λ (x : ℕ). AllMarked x start end nb new) v s)

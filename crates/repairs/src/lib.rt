@@ -63,9 +63,9 @@ fn repair_expanded(
     asked: bool,
 ) -> Move
     requires { ⌜ Standing (now m) (now masks) nodes (now nb) ⌝ }
+    requires { ⌜ ParentRight (modelOf (now m)) (heldIn (now m) nodes (now nb)) (parentIn (now m) (now nb)) ⌝ }
     requires { ⌜ (n < nodes) × (heldIn (now m) nodes (now nb) .kind n ≡ Kind.expanded) ⌝ }
     requires { ⌜ (asked ≡ false → (guardsWant (modelOf (now m)) (heldIn (now m) nodes (now nb)) n ≡ none) × (truthWants (modelOf (now m)) (heldIn (now m) nodes (now nb)) n (modelOf (now m) .target) ≡ none)) ⌝ }
-    requires { ⌜ ParentRight (modelOf (now m)) (heldIn (now m) nodes (now nb)) (parentIn (now m) (now nb)) ⌝ }
     ensures { λ r. ⌜ told r ≡ repairAs (modelOf (now (m .entry))) (heldIn (now (m .entry)) nodes (now (nb .entry))) n Kind.expanded ⌝ }
     ensures { λ _. ⌜ Reread (now (m .entry)) nodes (now (nb .entry)) (now (nb .exit)) ⌝ }
 {
@@ -105,9 +105,9 @@ fn repair_target(m: &[u8], nb: &[u8], nodes: usize, n: usize, masks: &[u16]) -> 
 // The repair of node n's first broken rule, if it has one. Its guards and its target are asked for only if need be.
 fn repair_of(m: &[u8], nb: &mut [u8], nodes: usize, n: usize, masks: &[u16], asked: bool) -> Move
     requires { ⌜ Standing (now m) (now masks) nodes (now nb) ⌝ }
+    requires { ⌜ ParentRight (modelOf (now m)) (heldIn (now m) nodes (now nb)) (parentIn (now m) (now nb)) ⌝ }
     requires { ⌜ n < nodes ⌝ }
     requires { ⌜ (asked ≡ false → heldIn (now m) nodes (now nb) .kind n ≡ Kind.expanded → (guardsWant (modelOf (now m)) (heldIn (now m) nodes (now nb)) n ≡ none) × (truthWants (modelOf (now m)) (heldIn (now m) nodes (now nb)) n (modelOf (now m) .target) ≡ none)) ⌝ }
-    requires { ⌜ ParentRight (modelOf (now m)) (heldIn (now m) nodes (now nb)) (parentIn (now m) (now nb)) ⌝ }
     ensures { λ r. ⌜ told r ≡ repair (modelOf (now (m .entry))) (heldIn (now (m .entry)) nodes (now (nb .entry))) n ⌝ }
     ensures { λ _. ⌜ Reread (now (m .entry)) nodes (now (nb .entry)) (now (nb .exit)) ⌝ }
 {
@@ -150,10 +150,10 @@ pub struct Marks {
 // The repair of node n, if it is marked and has one; if it has none, it is marked no longer.
 fn visit(m: &[u8], nb: &mut [u8], masks: &[u16], marks: &mut [u8], w: Marks, n: usize) -> Move
     requires { ⌜ Standing (now m) (now masks) (w .nodes) (now nb) ⌝ }
+    requires { ⌜ ParentRight (modelOf (now m)) (heldIn (now m) (w .nodes) (now nb)) (parentIn (now m) (now nb)) ⌝ }
     requires { ⌜ Settled (modelOf (now m)) (heldIn (now m) (w .nodes) (now nb)) (w .fresh) ⌝ }
     requires { ⌜ (n < w .nodes) × (n < length (now marks)) ⌝ }
     requires { ⌜ (rowIn (now marks) n ≡ 0 → repair (modelOf (now m)) (heldIn (now m) (w .nodes) (now nb)) n ≡ none) ⌝ }
-    requires { ⌜ ParentRight (modelOf (now m)) (heldIn (now m) (w .nodes) (now nb)) (parentIn (now m) (now nb)) ⌝ }
     ensures { λ r. ⌜ told r ≡ repair (modelOf (now (m .entry))) (heldIn (now (m .entry)) (w .nodes) (now (nb .entry))) n ⌝ }
     ensures { λ _. ⌜ Reread (now (m .entry)) (w .nodes) (now (nb .entry)) (now (nb .exit)) ⌝ }
     ensures { λ r. ⌜ now (marks .exit) ≡ pick (there (told r)) (now (marks .entry)) (set (now (marks .entry)) n 0) ⌝ }
@@ -173,10 +173,10 @@ fn visit(m: &[u8], nb: &mut [u8], masks: &[u16], marks: &mut [u8], w: Marks, n: 
 // The repair of the lowest node that has a broken rule.
 pub fn first_repair(m: &[u8], nb: &mut [u8], masks: &[u16], marks: &mut [u8], w: Marks) -> Move
     requires { ⌜ Standing (now m) (now masks) (w .nodes) (now nb) ⌝ }
+    requires { ⌜ ParentRight (modelOf (now m)) (heldIn (now m) (w .nodes) (now nb)) (parentIn (now m) (now nb)) ⌝ }
     requires { ⌜ Settled (modelOf (now m)) (heldIn (now m) (w .nodes) (now nb)) (w .fresh) ⌝ }
     requires { ⌜ MarkRight (modelOf (now m)) (heldIn (now m) (w .nodes) (now nb)) (rowIn (now marks)) (w .low) (w .high) ⌝ }
     requires { ⌜ (w .low ≤ w .high) × (w .high ≤ w .nodes) × (mostNodes ≤ length (now marks)) ⌝ }
-    requires { ⌜ ParentRight (modelOf (now m)) (heldIn (now m) (w .nodes) (now nb)) (parentIn (now m) (now nb)) ⌝ }
     ensures { λ r. ⌜ told r ≡ first (w .nodes) (repair (modelOf (now (m .entry))) (heldIn (now (m .entry)) (w .nodes) (now (nb .entry)))) ⌝ }
     ensures { λ _. ⌜ Reread (now (m .entry)) (w .nodes) (now (nb .entry)) (now (nb .exit)) ⌝ }
     ensures { λ r. ⌜ MarkRight (modelOf (now (m .entry))) (heldIn (now (m .entry)) (w .nodes) (now (nb .exit))) (rowIn (now (marks .exit))) (nodeOf (w .high) (told r)) (w .high) ⌝ }

@@ -8,6 +8,8 @@
 //! where a rule asks for what is unknown.
 #![allow(dead_code)]
 
+pub mod build;
+pub mod build_fast;
 mod combinations;
 pub mod situations;
 

@@ -1,5 +1,4 @@
 use Prim.Native.Nat.{_-_, _≤_}
-use mathlib.Core.Path.{_∙_}
 use native.Mathlib.Omega.{arith}
 use Rattle.covers.proofs.CoverLaws.{field-by}
 use Rattle.repairs.specs.Marked.{AllMarked}

@@ -1,5 +1,4 @@
 use Rattle.repairs.proofs.Answering.{tracks-none, tracks-some}
-use borrow.Author.Needs.{needs}
 use Rattle.repairs.proofs.tracks_found.Statement.{statement}
 use Rattle.repairs.proofs.tracks_found.Tie as tie
 
