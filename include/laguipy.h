@@ -9,22 +9,22 @@
  * You, on every call:
  *
  * - pass a slice as a pointer and a count of elements, which may be 0. No pointer is NULL, not even that of an empty
- *   slice, and each is aligned for its elements: folders need no alignment, rows that of uint32_t, uint16_t or
- *   int16_t, numbers (place, *listed, values, part) that of size_t.
- * - keep whatever is written to (rows, place, *listed, values, part) apart from all else that is passed. What is only
- *   read may overlap: the same bytes may be passed as model and graph.
+ *   slice, and each is aligned for its elements: folders and out need no alignment, rows that of uint32_t, uint16_t or
+ *   int16_t, numbers (place, *listed, *length, values, part) that of size_t.
+ * - keep whatever is written to (rows, out, place, *listed, *length, values, part) apart from all else that is passed.
+ *   What is only read may overlap: the same bytes may be passed as model and graph.
  * - see to it that, during the call, nobody else writes to what is passed or reads what is written to.
  * - have LAGUIPY_STACK_BYTES of stack left.
  *
  * It, on every call, whatever the bytes and the lengths are:
  *
- * - returns 0 for acceptance, else the number of the refusal, 1 to 34. Only laguipy_record_part returns nothing.
- * - writes place, *listed, values and part, refused or not. place[0] is where a rule is broken: a node, a command, an
- *   entry and so on, as docs/REFUSALS.md says for each refusal. place[1] is a variable: for 19 the lowest that the
- *   unknown guard or target mentions and the node does not track, for 21 the assigned one that does not lead to the
- *   successor's label, for both LAGUIPY_NO_VARIABLE if it is another fault. It is 0 for all other refusals. Accepted,
- *   both are 0.
- * - leaves the rows (first, second, slots, answers, listing, result) as they were when it refuses.
+ * - returns 0 for acceptance, else the number of the refusal, 1 to 35. Only laguipy_record_part returns nothing.
+ * - writes place, *listed, *length, values and part, refused or not. place[0] is where a rule is broken: a node, a
+ *   command, an entry and so on, as docs/REFUSALS.md says for each refusal. place[1] is a variable: for 19 the lowest
+ *   that the unknown guard or target mentions and the node does not track, for 21 the assigned one that does not lead
+ *   to the successor's label, for both LAGUIPY_NO_VARIABLE if it is another fault. It is 0 for all other refusals.
+ *   Accepted, both are 0.
+ * - leaves the rows (first, second, slots, answers, listing, result) and out as they were when it refuses.
  * - ends, allocates nothing, frees nothing, keeps no pointer, reads and writes no file, and has no state: calls on
  *   different rows may run in any number of threads at once.
  *
@@ -46,10 +46,11 @@ extern "C" {
 /* Certainty, in units. */
 #define LAGUIPY_CERTAIN 1000000000
 
-/* The most nodes of a graph, variables of a model, and steps of a figure. */
+/* The most nodes of a graph, variables of a model, steps of a figure, and rounds of a builder. */
 #define LAGUIPY_MOST_NODES 4096
 #define LAGUIPY_MOST_VARIABLES 16
 #define LAGUIPY_MOST_STEPS 10000
+#define LAGUIPY_MOST_ROUNDS 1000
 
 /* The slots of an index, and what stands for no node in a slot or in an answer. */
 #define LAGUIPY_SLOTS 8192
@@ -142,6 +143,23 @@ size_t laguipy_index(const uint8_t *model, size_t model_len, const uint8_t *grap
  */
 size_t laguipy_step(const uint8_t *model, size_t model_len, const int16_t *state, size_t state_len, size_t command,
                     size_t branch, int16_t *result, size_t result_len, size_t place[2]);
+
+/*
+ * The builder: a graph of the model, which stands first in `out`. *length is how many bytes it has; those past it stay.
+ * laguipy_graph_check accepts every graph that is built.
+ *
+ * - Building ends when no node waits, or when the next expansion would give the graph more than LAGUIPY_MOST_NODES
+ *   nodes, or more bytes than LAGUIPY_GRAPH_BYTES or out_len; what waits then stays waiting. A built graph of n nodes
+ *   has at most 12 + n * (16 + 4 * variables) bytes, so that 327692 are enough for any.
+ * - Values start at certainty, and `rounds` rounds lower them, each over the nodes upward and in place. Any number of
+ *   rounds is right, 0 too. What is lower moves up about one level of the graph in a round; and however many there are,
+ *   going on for ever counts as reaching a target. Figures do not depend on the values.
+ *
+ * Refused, with 1 to 11 or 35, *length is 0 and all of `out` stays: 35 where out_len is below 16 + 12 + 4 * variables,
+ * the bytes of a graph of one node (place 0), or rounds is over LAGUIPY_MOST_ROUNDS (1).
+ */
+size_t laguipy_build(const uint8_t *model, size_t model_len, size_t rounds, uint8_t *out, size_t out_len,
+                     size_t place[2], size_t *length);
 
 #ifdef __cplusplus
 }

@@ -1,7 +1,7 @@
 /*
  * Tests include/laguipy.h as C and as C++, on the pedal example: number and both places of every refusal of every call,
- * the index, with every row at exit, and how much stack each call uses, which it prints. It exits with 0 if all is as
- * the header says.
+ * the index and the builder, with every row and the slice at exit, and how much stack each call uses, which it prints.
+ * It exits with 0 if all is as the header says.
  *
  *   target/test_header examples/pedal/model.fold examples/pedal/graph.fold
  */
@@ -16,6 +16,7 @@
 #define NODES 6
 #define STATES 3
 #define FILL 7777
+#define UNTOUCHED 0x5a
 
 /* Where a node's record starts, and fields of it. */
 #define NODE(k) (16 + 20 * (k))
@@ -167,6 +168,19 @@ static void call_step(void) {
     take_step(batch + 2, 2, 0, 1);
 }
 
+/* The bytes of a graph of one node, and of the graph that is built, of six; with its first edges it has four. */
+#define ONE_NODE (16 + 20)
+#define FOUR_NODES (16 + 4 * 20 + 10)
+#define BUILT (16 + NODES * 20 + 16)
+
+static uint8_t out[2 * BUILT];
+static size_t rounds = LAGUIPY_MOST_ROUNDS, out_len = sizeof out, length;
+
+static void call_build(void) {
+    length = FILL;
+    number = laguipy_build(model, model_len, rounds, out, out_len, unset(), &length);
+}
+
 /*
  * The calls that refuse, with the highest number that comes of the folders; the one that uses the most stack first, as
  * what is bound late takes some too.
@@ -183,6 +197,7 @@ static const struct {
     {"laguipy_figure_rows", call_rows, 26},
     {"laguipy_figure", call_figure, 26},
     {"laguipy_step", call_step, 11},
+    {"laguipy_build", call_build, 11},
 };
 #define CALLS (sizeof calls / sizeof calls[0])
 
@@ -301,6 +316,64 @@ static void test_steps(void) {
     expect(answered(33, 2, 0), "no such branch");
 }
 
+/* How many bytes of the slice are as they were, from the last one on. */
+static size_t untouched(void) {
+    size_t last = sizeof out;
+    while (last > 0 && out[last - 1] == UNTOUCHED)
+        last--;
+    return sizeof out - last;
+}
+
+static void build(size_t asked, size_t lent) {
+    for (size_t k = 0; k < sizeof out; k++)
+        out[k] = UNTOUCHED;
+    rounds = asked;
+    out_len = lent;
+    call_build();
+    rounds = LAGUIPY_MOST_ROUNDS;
+    out_len = sizeof out;
+}
+
+/* The graph check accepts what was built, with so many nodes of each kind. */
+static void built(size_t bytes, size_t root, size_t waiting, size_t expanded, size_t covered, size_t target) {
+    size_t values[LAGUIPY_VALUES];
+    expect(answered(0, 0, 0) && length == bytes && untouched() == sizeof out - bytes, "a graph is built");
+    number = laguipy_graph_check(model, model_len, out, length, unset(), values);
+    expect(answered(0, 0, 0) && values[LAGUIPY_ROOT] == root, "a built graph is accepted");
+    expect(values[LAGUIPY_WAITING] == waiting && values[LAGUIPY_EXPANDED] == expanded, "waiting and expanded nodes");
+    expect(values[LAGUIPY_COVERED] == covered && values[LAGUIPY_TARGET] == target, "covered and target nodes");
+}
+
+static void not_built(size_t as, size_t at, const char *what) {
+    expect(answered(as, at, 0) && length == 0 && untouched() == sizeof out, what);
+}
+
+/* Command 1 goes on for ever, so that the root value stays at certainty; that of node 2 comes down. */
+static void test_build(void) {
+    build(LAGUIPY_MOST_ROUNDS, sizeof out);
+    built(BUILT, LAGUIPY_CERTAIN, 0, 3, 2, 1);
+    expect(memcmp(out + NODE(2), graph + NODE(2), 20) == 0, "node 2 is the example's, with its value");
+    build(0, BUILT);
+    built(BUILT, LAGUIPY_CERTAIN, 0, 3, 2, 1);
+    expect(memcmp(out + NODE(2) + VALUE, out + NODE(5) + VALUE, 4) == 0, "without rounds all values are certainty");
+    build(1, BUILT - 1);
+    built(FOUR_NODES, LAGUIPY_CERTAIN, 2, 2, 0, 0);
+    build(1, FOUR_NODES - 1);
+    built(ONE_NODE, LAGUIPY_CERTAIN, 1, 0, 0, 0);
+    build(LAGUIPY_MOST_ROUNDS, ONE_NODE);
+    built(ONE_NODE, LAGUIPY_CERTAIN, 1, 0, 0, 0);
+    build(LAGUIPY_MOST_ROUNDS, ONE_NODE - 1);
+    not_built(35, 0, "a byte too few for one node");
+    build(LAGUIPY_MOST_ROUNDS + 1, 0);
+    not_built(35, 0, "no byte, and a round too many");
+    build(LAGUIPY_MOST_ROUNDS + 1, ONE_NODE);
+    not_built(35, 1, "a round too many");
+    model_len--;
+    build(LAGUIPY_MOST_ROUNDS + 1, 0);
+    not_built(2, 4, "the model's refusal comes first");
+    model_len++;
+}
+
 /*
  * A stack of more than a call may take, so that one which takes more is seen to. It is volatile so that no memset
  * paints it: in a program that binds late, the first call of memset takes more stack, and the library is to make it.
@@ -364,5 +437,6 @@ int main(int words, char **word) {
     test_steps();
     test_rows();
     test_twins();
+    test_build();
     return wrong;
 }

@@ -12,6 +12,11 @@ units are certainty. Every call is proved to answer so, on every input; what is 
     >>> laguipy.figure(model, graph, 2)[0]
     10000000
 
+`build` makes a graph of a model, which is accepted:
+
+    >>> laguipy.figure(model, laguipy.build(model), 2)[0]
+    10000000
+
 `write_model` and `write_graph` make folders of text, `show_model` and `show_graph` text of folders.
 """
 from .errors import InputError
@@ -21,6 +26,7 @@ from .limits import (
     GRAPH_BYTES,
     MODEL_BYTES,
     MOST_NODES,
+    MOST_ROUNDS,
     MOST_STEPS,
     MOST_VARIABLES,
     NO_NODE,
@@ -32,6 +38,8 @@ from .native import (
     Refusal,
     Shared,
     Summary,
+    build,
+    build_in,
     figure,
     figure_refusal,
     figure_rows,
@@ -52,6 +60,7 @@ __all__ = [
     "InputError",
     "MODEL_BYTES",
     "MOST_NODES",
+    "MOST_ROUNDS",
     "MOST_STEPS",
     "MOST_VARIABLES",
     "NO_NODE",
@@ -61,6 +70,8 @@ __all__ = [
     "SLOTS",
     "Shared",
     "Summary",
+    "build",
+    "build_in",
     "figure",
     "figure_refusal",
     "figure_rows",

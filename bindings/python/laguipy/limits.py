@@ -22,6 +22,7 @@ SLOTS = 8_192  # of the index
 NO_NODE = 65_535  # an empty slot, and the answer where no node has a state
 
 MOST_STEPS = 10_000  # of a figure
+MOST_ROUNDS = 1_000  # of a builder
 
 PROGRAM_BYTES = 65_536  # of each file that the check program reads
 READ_BYTES = 16_777_216  # of a text that is written as a folder, and of a folder that is shown

@@ -5,8 +5,8 @@ Folders are bytes. `bytes` are passed as they are; of anything else that holds b
 copy is taken first, because nobody may write to a folder during a call, and only `bytes` cannot be written to.
 
 Rows are lent to be written: any writable buffer of unsigned 4-byte (figures), unsigned 2-byte (nodes) or signed 2-byte
-(states) elements, as array('I'), array('H'), array('h') or such an array of numpy. They are written where they stand;
-nobody else may use them during the call, and no two may overlap.
+(states) elements, as array('I'), array('H'), array('h') or such an array of numpy; and of bytes (a graph), as a
+bytearray. They are written where they stand; nobody else may use them during the call, and no two may overlap.
 """
 import ctypes
 import functools
@@ -15,13 +15,14 @@ from array import array
 from typing import NamedTuple
 
 from . import where
-from .limits import MOST_NODES, MOST_VARIABLES, SLOTS
+from .limits import GRAPH_BYTES, MOST_NODES, MOST_ROUNDS, MOST_VARIABLES, SLOTS
 from .output import RunError
 
 UNIT = ("I", 4)  # a row of figures: unsigned, 4 bytes
 VALUE = ("h", 2)  # a state: signed, 2 bytes
 NODE = ("H", 2)  # a row of nodes: unsigned, 2 bytes
-FORMATS = {"I": ("I", "L"), "h": ("h",), "H": ("H",)}
+BYTE = ("B", 1)  # a slice for a graph
+FORMATS = {"I": ("I", "L"), "h": ("h",), "H": ("H",), "B": ("B",)}
 VARIABLE_BYTES = 6  # of a variable's record in the model folder
 MOST_SIZE = 2 ** (8 * ctypes.sizeof(ctypes.c_size_t)) - 1
 
@@ -90,6 +91,7 @@ CALLS = {
     "laguipy_figure": (*FOLDER, *FOLDER, SIZE, *ROW, *ROW, NUMBERS, NUMBERS),
     "laguipy_step": (*FOLDER, *ROW, SIZE, SIZE, *ROW, NUMBERS),
     "laguipy_index": (*FOLDER, *FOLDER, *ROW, *ROW, *ROW, *ROW, NUMBERS, NUMBERS),
+    "laguipy_build": (*FOLDER, SIZE, *ROW, NUMBERS, NUMBERS),
 }
 
 
@@ -311,6 +313,28 @@ def index(model, graph, batch=(), slots=None, answers=None, listing=None):
     answered(loaded().laguipy_index(*folders, *lent, places, count), places)
     states = len(values) // max(1, variables_of(model))
     return Shared(memoryview(listed)[: count.value], memoryview(found)[:states])
+
+
+def build_in(model, rounds, out):
+    """The builder: a graph of the model, as a memoryview of the part of `out` that holds it, from its start. Later
+    bytes of `out` stay. `graph_check` accepts every graph that is built.
+
+    Building ends when no node waits, or when the next expansion would pass MOST_NODES, GRAPH_BYTES or `out`; what waits
+    then stays waiting. Values start at CERTAIN, and so many rounds lower them, each over the nodes upward and in place.
+
+    Refused with the model check's refusal; then 35, at 0 where `out` is too short for a graph of one node, at 1 where
+    the rounds are over MOST_ROUNDS.
+    """
+    places, count, lent = PLACES(), SIZE(), Row(out, BYTE, "the slice")
+    call = loaded().laguipy_build
+    arguments = *passed(folder_bytes(model)), size(rounds, "the number of rounds"), *lent.arguments
+    answered(call(*arguments, places, count), places)
+    return memoryview(out)[: count.value]
+
+
+def build(model, rounds=MOST_ROUNDS, room=GRAPH_BYTES):
+    """The graph that `build_in` builds in a slice of so many bytes. More than GRAPH_BYTES change nothing."""
+    return bytes(build_in(model, rounds, bytearray(min(size(room, "the room"), GRAPH_BYTES))))
 
 
 def variables_of(model):

@@ -1,5 +1,6 @@
 pub mod BytesLaws
 pub mod Putting
+pub mod Contents
 pub mod RoundLaws
 pub mod CallLaws
 pub mod Decided

@@ -1,13 +1,10 @@
 // Document 02, 2.5: the moves made, one after the other, until there is none.
 use expressions::MOST_EXPRESSIONS;
 use graph::MOST_NODES;
-use nodes::STATE;
 use work::Work;
 ghost use mathlib.Core.Path.{_≡_};
 ghost use Prim.Native.Nat.{_+_, _*_, _<_, _≤_};
 ghost use lib.ListN.{length};
-ghost use Rattle.folder.specs.Fields.{fieldLimit};
-ghost use Rattle.model.specs.Limits.{mostVariables};
 ghost use Rattle.model.specs.Layout.{variableCount};
 ghost use Rattle.model.specs.Model.{modelOf};
 ghost use Rattle.model.specs.Valid.{Valid};
@@ -15,9 +12,8 @@ ghost use Rattle.graph.specs.Limits.{leastBytes, mostBytes};
 ghost use Rattle.graph.specs.Simulation.{nodeSize};
 ghost use Rattle.building.specs.Built.{built};
 ghost use Rattle.put.specs.Put.{Stays};
-ghost use Rattle.held.specs.Held.{stateField, heldIn};
+ghost use Rattle.held.specs.Held.{heldIn};
 ghost use Rattle.work.specs.Working.{limitOf, Working, Grown};
-ghost use Rattle.builder.specs.Root.{rootField, Begun};
 
 // The contents stand before the node records.
 const LEAST_BYTES: usize = 16;
@@ -55,29 +51,6 @@ fn grow(
     }
 }
 
-fn root_field(vars: usize, y: &[u8], f: usize) -> usize
-    requires { ⌜ (vars ≤ mostVariables) × (f ≤ fieldLimit) ⌝ }
-    ensures { λ r. ⌜ (r ≡ rootField vars (now (y .entry)) f) × (r < fieldLimit) ⌝ }
-{
-    if (STATE <= f) & (f < STATE + vars) {
-        return folder::field(6, y, f - STATE, 2);
-    }
-    0
-}
-
-// The root's record: it waits, in the initial state.
-fn put_root(vars: usize, y: &[u8], nb: &mut [u8])
-    requires { ⌜ (vars ≤ mostVariables) × (nodeSize vars ≤ length (now nb)) ⌝ }
-    ensures { λ _. ⌜ Begun vars (now (y .entry)) (stateField + vars + 1) (now (nb .entry)) (now (nb .exit)) ⌝ }
-{
-    let last = STATE + vars + 1;
-    let mut f = 0;
-    while f < last {
-        nodes::put_field(vars, nb, 0, f, root_field(vars, y, f));
-        f += 1;
-    }
-}
-
 // The graph is built in the slice `nb`, with at most `longest` bytes, 16 of them before the slice.
 pub fn build(m: &[u8], longest: usize, nb: &mut [u8]) -> Size
     requires { ⌜ Valid (now m) ⌝ }
@@ -91,7 +64,7 @@ pub fn build(m: &[u8], longest: usize, nb: &mut [u8]) -> Size
     let mut marks = [0u8; MOST_NODES];
     let mut reaches = [0u16; MOST_NODES];
     mentions::fill_mentions(folder::body(m, 2), &mut masks);
-    put_root(vars, folder::body(m, 1), nb);
+    work::put_root(vars, folder::body(m, 1), nb);
     let start = Work {
         nodes: 1,
         len: LEAST_BYTES + graph::node_size(vars),

@@ -24,7 +24,7 @@ use Rattle.finish.specs.Laid.{Laid, edgeIn, EdgesLaid}
 use Rattle.finish.proofs.LaidLaws.{laid-none, laid-one, laid-then}
 
 -- ---- one edge, if its command is enabled
-module _ {on : Bool} (x count : ℕ) {at c : ℕ} {nb : List ℕ} where
+module _ {on : Bool} (c x count : ℕ) {at : ℕ} {nb : List ℕ} where
   pub edge-laid : {mid new : List ℕ} → on ≡ true → at + 1 < length nb → c < fieldLimit → mid ≡ put2 nb at c → Laid (at + 2) (tab count (λ b. x + b)) mid new
       → Laid at (pick on (c ∷ tab count (λ b. x + b)) []) nb new
   edge-laid {mid} {new} t h l e rest =

@@ -22,7 +22,7 @@ use Rattle.put.specs.Put.{Stays}
 use Rattle.put.proofs.PutLaws.{u16-past}
 use Rattle.held.specs.Held.{kindField, coverField, trackedField, stateField, fieldCount, putIn, Whole}
 use Rattle.finish.specs.Laid.{Laid, finalValue, finalField, finalRecord}
-use Rattle.finish.proofs.LaidLaws.{stand-read, laid-none, laid-more}
+use Rattle.finish.proofs.LaidLaws.{stand-read, laid-start, laid-more}
 
 -- ---- kinds
 pub kind-low : (k : ℕ) → k ≤ 3 → (k ≡ kindNumber (kindOf k)) × (k < fieldLimit)
@@ -97,6 +97,40 @@ module _ (vars : ℕ) (nb : List ℕ) (n : ℕ) where
       unfolding finalField
       field-set {f} q e = rw q (read z trackedField (e ∙ ap (field size nb n) q))
 
+-- A field is the same by another slice, where what it needs of the record is.
+module _ (vars n edges : ℕ) (old new : List ℕ) where
+  abbrev O : ℕ → ℕ
+  O f = field (nodeSize vars) old n f
+
+  abbrev N : ℕ → ℕ
+  N f = field (nodeSize vars) new n f
+
+  module _ (kind : kindOf (N kindField) ≡ kindOf (O kindField)) (tracked : N trackedField ≡ O trackedField)
+      (values : (w : ℕ) → w < vars → N (stateField + w) ≡ O (stateField + w)) where
+    value-same : (v : ℕ) → v < 2 * vars → finalValue vars new n v ≡ finalValue vars old n v
+    value-same v l = go (decLt v vars)
+      where
+        go : Dec (v < vars) → finalValue vars new n v ≡ finalValue vars old n v
+        go (yes h) = value-concrete vars old n refl h (sym (value-concrete vars new n refl h refl) ∙ values v h)
+        go (no d) =
+            let h : vars ≤ v = omega arith in
+            value-label vars old n refl {on = hasBit (N trackedField) (v - vars)} h tracked (values (v - vars) (omega arith)) refl
+            (sym (value-label vars new n refl {on = hasBit (N trackedField) (v - vars)} h refl refl refl refl))
+
+    pub field-same : (k : ℕ) → (k ≡ coverField → N coverField ≡ O coverField) → k < fieldCount vars → finalField vars new n edges k ≡ finalField vars old n edges k
+    unfolding finalField
+    field-same zero cover l = ap kindNumber kind
+    field-same (suc zero) cover l = λ i. ifCovered (kind i) (cover refl i)
+    field-same (suc (suc zero)) cover l = refl
+    field-same (suc (suc (suc zero))) cover l = refl
+    field-same (suc (suc (suc (suc zero)))) cover l = refl
+    field-same (suc (suc (suc (suc (suc zero))))) cover l = tracked
+    field-same (suc (suc (suc (suc (suc (suc v)))))) cover l = value-same v (omega arith)
+
+  pub record-same : ((f : ℕ) → f < fieldCount vars → N f ≡ O f) → finalRecord vars new n edges ≡ finalRecord vars old n edges
+  record-same h = tab-same (fieldCount vars) (finalField vars new n edges) (finalField vars old n edges)
+      (λ k l. field-same (ap kindOf (h kindField (omega arith))) (h trackedField (omega arith)) (λ w p. h (stateField + w) (omega arith)) k (λ e. h coverField (omega arith)) l)
+
 -- ---- the record while it is written: the first i fields are final
 pub record Going (vars n edges i : ℕ) (old new : List ℕ) : Type 0 where
   pub within : i ≤ fieldCount vars
@@ -104,8 +138,7 @@ pub record Going (vars n edges i : ℕ) (old new : List ℕ) : Type 0 where
   pub small : (f : ℕ) → f < i → finalField vars old n edges f < fieldLimit
 
 pub going-start : (vars n edges : ℕ) (nb : List ℕ) → Going vars n edges 0 nb nb
-unfolding tab
-going-start vars n edges nb = record { within = omega arith; laid = laid-none _ nb; small = λ f h. absurd (omega arith) }
+going-start vars n edges nb = record { within = omega arith; laid = laid-start (finalField vars nb n edges) _ nb; small = λ f h. absurd (omega arith) }
 
 module _ {vars n edges i : ℕ} {old nb : List ℕ} (g : Going vars n edges i old nb) where
   abbrev F : ℕ → ℕ
@@ -121,41 +154,37 @@ module _ {vars n edges i : ℕ} {old nb : List ℕ} (g : Going vars n edges i ol
       let e : getD (tab i F) f 0 ≡ F f = getD-tab 0 i F f l in
       stand-read (g .laid .stand) f (omega (arith, length-tab i F)) (rw e (g .small f l)) ∙ e
 
-  -- Concrete values and the tracked set become what they are.
-  kept-set : trackedField < i → field (nodeSize vars) nb n trackedField ≡ field (nodeSize vars) old n trackedField
-  unfolding finalField
-  kept-set l = done trackedField l
-
-  kept-value : (w : ℕ) → w < vars → stateField + w < i → field (nodeSize vars) nb n (stateField + w) ≡ field (nodeSize vars) old n (stateField + w)
-  kept-value w h l =
-      let e : stateField + w - stateField ≡ w = omega arith in
-      done (stateField + w) l ∙ later-is vars old n edges (stateField + w) (omega arith) ∙ ap (finalValue vars old n) e ∙ sym (value-concrete vars old n refl h refl)
-
-  value-same : (v : ℕ) → i ≡ stateField + v → v < 2 * vars → finalValue vars nb n v ≡ finalValue vars old n v
-  value-same v e l = go (decLt v vars)
+  -- What field i needs is there still, or has become what it was.
+  kept : (f : ℕ) → (f < i → F f ≡ field (nodeSize vars) old n f) → field (nodeSize vars) nb n f ≡ field (nodeSize vars) old n f
+  kept f h = go (decLt f i)
     where
-      go : Dec (v < vars) → finalValue vars nb n v ≡ finalValue vars old n v
-      go (yes h) = value-concrete vars old n refl h (sym (value-concrete vars nb n refl h refl) ∙ ahead (stateField + v) (omega arith))
-      go (no d) =
-          let h : vars ≤ v = omega arith in
-          value-label vars old n refl {on = hasBit (field (nodeSize vars) nb n trackedField) (v - vars)} h (kept-set (omega arith)) (kept-value (v - vars) (omega arith) (omega arith)) refl
-          (sym (value-label vars nb n refl {on = hasBit (field (nodeSize vars) nb n trackedField) (v - vars)} h refl refl refl refl))
+      go : Dec (f < i) → field (nodeSize vars) nb n f ≡ field (nodeSize vars) old n f
+      go (yes l) = done f l ∙ h l
+      go (no d) = ahead f (omega arith)
 
-  same-at : (k : ℕ) → i ≡ k → k < fieldCount vars → finalField vars nb n edges k ≡ F k
+  kind-kept : kindOf (field (nodeSize vars) nb n kindField) ≡ kindOf (field (nodeSize vars) old n kindField)
   unfolding finalField
-  same-at zero e l = ap (λ (x : ℕ). kindNumber (kindOf x)) (ahead kindField (omega arith))
-  same-at (suc zero) e l =
-      λ j. ifCovered ((ap kindOf (done kindField (omega arith)) ∙ kind-back (kindOf (field (nodeSize vars) old n kindField))) j) (ahead coverField (omega arith) j)
-  same-at (suc (suc zero)) e l = refl
-  same-at (suc (suc (suc zero))) e l = refl
-  same-at (suc (suc (suc (suc zero)))) e l = refl
-  same-at (suc (suc (suc (suc (suc zero))))) e l = ahead trackedField (omega arith)
-  same-at (suc (suc (suc (suc (suc (suc v)))))) e l = value-same v (omega arith) (omega arith)
+  kind-kept = go (decLt 0 i)
+    where
+      go : Dec (0 < i) → kindOf (field (nodeSize vars) nb n kindField) ≡ kindOf (field (nodeSize vars) old n kindField)
+      go (yes l) = ap kindOf (done kindField l) ∙ kind-back (kindOf (field (nodeSize vars) old n kindField))
+      go (no d) = ap kindOf (ahead kindField (omega arith))
+
+  set-kept : field (nodeSize vars) nb n trackedField ≡ field (nodeSize vars) old n trackedField
+  unfolding finalField
+  set-kept = kept trackedField (λ l. refl)
+
+  value-kept : (w : ℕ) → w < vars → field (nodeSize vars) nb n (stateField + w) ≡ field (nodeSize vars) old n (stateField + w)
+  value-kept w h = kept (stateField + w) (λ l.
+      let e : stateField + w - stateField ≡ w = omega arith in
+      later-is vars old n edges (stateField + w) (omega arith) ∙ ap (finalValue vars old n) e ∙ sym (value-concrete vars old n refl h refl))
+  same-here : i < fieldCount vars → finalField vars nb n edges i ≡ F i
+  same-here l = field-same vars n edges old nb kind-kept set-kept value-kept i (λ e. ahead coverField (omega arith)) l
 
   pub going-next : {u : ℕ} {new : List ℕ} → i < fieldCount vars → Whole vars old n → u ≡ finalField vars nb n edges i → u < fieldLimit → new ≡ putIn vars nb n i u → Going vars n edges (i + 1) old new
   unfolding putIn
   going-next {u} {new} l w e s z =
-      let q : u ≡ F i = e ∙ same-at i refl l in
+      let q : u ≡ F i = e ∙ same-here l in
       record {
         within = omega arith;
         laid = laid-more F (g .laid) (omega (arith, g .laid .stays .long)) q s z;

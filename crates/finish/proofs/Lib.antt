@@ -1,3 +1,5 @@
 pub mod LaidLaws
 pub mod FinalLaws
 pub mod EdgeLaws
+pub mod OwnLaws
+pub mod BodyLaws

@@ -1,13 +1,13 @@
 -- What the records say of a node that is counted is what the building that they hold says: its kind, its label, its state,
 -- and which nodes can cover it.
 -- Assumes nothing.
-use Prim.Native.Nat.{ℕ, _+_, _^_, _<_, _≤_}
+use Prim.Native.Nat.{ℕ, _+_, _^_, _<_}
 use mathlib.Core.Path.{_≡_, ap, _∙_, subst}
-use mathlib.Core.Bool.{Bool, _&&_}
+use mathlib.Core.Bool.{_&&_}
 use mathlib.Core.List.{List, []}
 use native.Mathlib.Omega.{arith}
 use lib.Dec.{eqb}
-use lib.IntN.{ℤ, pos}
+use lib.IntN.{pos}
 use Rattle.mdp.specs.Kinds.{Kind}
 use Rattle.folder.specs.Pick.{implies}
 use Rattle.folder.specs.Fields.{signed16}

@@ -2,3 +2,4 @@ pub mod Counted
 pub mod Lowest
 pub mod Settling
 pub mod Opening
+pub mod NextLaws

@@ -1,8 +1,8 @@
 -- The lowest node that waits, and the lowest that can cover it: what a scan finds in the records is what the building has.
 -- Assumes nothing.
-use Prim.Native.Nat.{ℕ, suc, _+_, _<_, _≤_}
-use mathlib.Core.Path.{_≡_, refl, sym, ap, _∙_, subst}
-use mathlib.Core.Bool.{Bool, true, false, not, false≢true}
+use Prim.Native.Nat.{ℕ, _<_, _≤_}
+use mathlib.Core.Path.{_≡_, refl, sym, ap, _∙_}
+use mathlib.Core.Bool.{true, false, not, false≢true}
 use mathlib.Core.Option.{Option, none, some}
 use mathlib.Core.List.{List}
 use native.Mathlib.Omega.{arith}
@@ -14,12 +14,12 @@ use Rattle.folder.proofs.ScanLaws.{found}
 use Rattle.model.specs.Layout.{variableCount}
 use Rattle.model.specs.Limits.{mostVariables}
 use Rattle.model.specs.Model.{modelOf}
-use Rattle.building.specs.First.{_orelse_, given, onward, first}
+use Rattle.building.specs.First.{_orelse_, given, onward}
 use Rattle.building.specs.Building.{Building}
 use Rattle.building.specs.Moves.{Move, coverBy, Limit, waits, canCover, lowestWaiting, lowestCover, opening, growth}
 use Rattle.building.specs.Working.{HintRight, NextRight}
 use Rattle.building.proofs.FirstLaws.{first-here, first-nowhere}
-use Rattle.held.specs.Held.{kindField, heldIn}
+use Rattle.held.specs.Held.{heldIn}
 use Rattle.wants.specs.Standing.{hintIn, Held}
 use Rattle.covers.specs.Covers.{isWaiting, canCoverIn, waitsIn, hintAt}
 use Rattle.growth.proofs.Counted.{kind-here, can-here}

@@ -1,17 +1,15 @@
 -- What becomes of a node that waits and has no cover, by the row of what the entries are in its state.
 -- Assumes nothing.
 use Prim.Native.Nat.{ℕ, _+_, _*_, _<_, _≤_}
-use mathlib.Core.Path.{_≡_, refl, sym, ap, _∙_, subst}
-use mathlib.Core.Bool.{Bool, true, false, _&&_}
+use mathlib.Core.Path.{_≡_, refl, sym, ap, _∙_}
+use mathlib.Core.Bool.{Bool, true, false}
 use mathlib.Core.Option.{Option, none, some}
 use mathlib.Core.List.{List}
-use native.Mathlib.Nat.{mul-le-mul}
 use native.Mathlib.Omega.{arith}
 use borrow.Author.Tests.{le-leb, lt-leb}
 use lib.Dec.{leb}
 use lib.ListN.{getD}
 use lib.IntN.{ℤ, pos}
-use Rattle.folder.specs.Pick.{pick}
 use Rattle.folder.specs.Contents.{body, field, countOf}
 use Rattle.whole.specs.Order.{eqZ}
 use Rattle.expressions.specs.Meaning.{State, truthIn}
@@ -23,7 +21,7 @@ use Rattle.graph.specs.Limits.{mostNodes}
 use Rattle.graph.specs.Simulation.{nodeSize}
 use Rattle.building.specs.First.{given}
 use Rattle.building.specs.Building.{Building, births}
-use Rattle.building.specs.Length.{edgesLength, graphLength, lengthWith}
+use Rattle.building.specs.Length.{edgesLength, lengthWith}
 use Rattle.building.specs.Moves.{Move, reach, expand, room, opening}
 use Rattle.held.specs.Held.{stateIn}
 use Rattle.nodes.specs.Born.{childrenIn, edgesIn}
@@ -85,7 +83,7 @@ module _ {m nb : List ℕ} {longest : ℕ} {w : Work} {n : ℕ} (H : Held m (w .
       unfolding given
       given-false o h = rw h refl
 
-      pub opening-many : (w .nodes + born ≤ mostNodes → ⊥) → none ≡ opening M (limitOf longest) B n
+      pub opening-many : mostNodes < w .nodes + born → none ≡ opening M (limitOf longest) B n
       opening-many h =
           given-false (some (expand n)) (rw (lt-leb (B .nodes + births M (B .state n)) mostNodes (omega (arith, born-is))) refl) ∙ sym by-room
 
@@ -103,5 +101,5 @@ module _ {m nb : List ℕ} {longest : ℕ} {w : Work} {n : ℕ} (H : Held m (w .
         pub opening-expand : w .len + (size * born + bytes) ≤ longest → some (expand n) ≡ opening M (limitOf longest) B n
         opening-expand h = given-true (rw (few-is, le-leb (lengthWith M B n) longest (omega (arith, length-is))) refl) ∙ sym by-room
 
-        pub opening-long : (w .len + (size * born + bytes) ≤ longest → ⊥) → none ≡ opening M (limitOf longest) B n
+        pub opening-long : longest < w .len + (size * born + bytes) → none ≡ opening M (limitOf longest) B n
         opening-long h = given-false (some (expand n)) (rw (few-is, lt-leb (lengthWith M B n) longest (omega (arith, length-is))) refl) ∙ sym by-room

@@ -1,8 +1,8 @@
 -- The hints, once the node opened last is taken into account.
 -- Assumes nothing.
-use Prim.Native.Nat.{ℕ, _+_, _*_, _<_, _≤_}
-use mathlib.Core.Path.{_≡_, refl, sym, ap, _∙_, subst}
-use mathlib.Core.Bool.{Bool, true, false, false≢true, _&&_}
+use Prim.Native.Nat.{ℕ, _*_, _<_, _≤_}
+use mathlib.Core.Path.{_≡_, refl, sym, _∙_, subst}
+use mathlib.Core.Bool.{Bool, true, false, _&&_}
 use mathlib.Core.List.{List}
 use native.Mathlib.Decide.{decLt}
 use native.Mathlib.Omega.{arith}
@@ -14,12 +14,11 @@ use Rattle.folder.specs.Fields.{fieldLimit}
 use Rattle.model.specs.Layout.{variableCount}
 use Rattle.model.specs.Model.{Model, modelOf}
 use Rattle.graph.specs.Simulation.{nodeSize}
-use Rattle.building.specs.Building.{Building, contains}
+use Rattle.building.specs.Building.{Building}
 use Rattle.building.specs.Working.{HintRight}
 use Rattle.building.proofs.Working.{hint-lowered}
 use Rattle.model.specs.Limits.{mostVariables}
 use Rattle.put.proofs.PutLaws.{stays-none}
-use Rattle.held.specs.Held.{stateField, hintField, fieldCount, nodeIn, heldIn}
 use Rattle.held.proofs.Made.{held-same}
 use Rattle.nodes.proofs.Expanded.{variables-some}
 use Rattle.wants.specs.Standing.{hintIn, Held}

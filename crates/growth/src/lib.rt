@@ -25,11 +25,13 @@ pub struct Marks {
     pub low: usize,
     pub high: usize,
 }
+
 pub fn is_move(mv: Move) -> bool
     ensures { λ r. ⌜ r ≡ there (told mv) ⌝ }
 {
     true
 }
+
 pub fn first_repair(m: &[u8], nb: &mut [u8], masks: &[u16], marks: &mut [u8], w: Marks) -> Move
     requires { ⌜ Standing (now m) (now masks) (w .nodes) (now nb) ⌝ }
     requires { ⌜ ParentRight (modelOf (now m)) (heldIn (now m) (w .nodes) (now nb)) (parentIn (now m) (now nb)) ⌝ }

@@ -1,1 +1,3 @@
 pub mod Marks
+pub mod Moving
+pub mod Becoming

@@ -42,7 +42,7 @@ module _ (vars : ℕ) (nb : List ℕ) (n : ℕ) where
   under-over {i} {end} u p q = let e : i ≡ end = omega arith in rw (← e) u
 
 -- ---- a mark that is set
-none-set : (row : List ℕ) (n k : ℕ) → n < length row → getD (set row n 1) k 0 ≡ 0 → (getD row k 0 ≡ 0) × (k ≡ n → ⊥)
+pub none-set : (row : List ℕ) (n k : ℕ) → n < length row → getD (set row n 1) k 0 ≡ 0 → (getD row k 0 ≡ 0) × (k ≡ n → ⊥)
 none-set row n k l h = go (ℕ-discrete k n)
   where
     go : Dec (k ≡ n) → (getD row k 0 ≡ 0) × (k ≡ n → ⊥)

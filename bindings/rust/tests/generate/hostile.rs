@@ -180,6 +180,24 @@ impl Maker {
         }
         Hostile { name, model: self.builder.model }
     }
+
+    /// The model whose first command adds one to variable 0 and changes nothing else, so that
+    /// its graph is a chain. The numbers, which are never below 0, are asked in every node: the
+    /// guards of all other commands and the target say that one of them is.
+    fn finish_chain(mut self, numbers: &[u16]) -> ModelData {
+        let (always, zero) = (self.put([14, 0, 0, 0]), self.zero);
+        let one = self.builder.put([0, 1, 0, 0]).expect("it is there");
+        let next = self.put([2, self.leaves[0], one, 0]);
+        let next = self.builder.fit(next, 0).expect("room is counted");
+        let weight = [self.builder.model.total];
+        self.builder.command(always, vec![[&weight[..], &[next], &self.leaves[1..]].concat()]);
+        let asked: Vec<u16> = numbers.iter().map(|&number| self.put([9, number, zero, 0])).collect();
+        self.builder.model.target = asked[0];
+        for &guard in &asked[1..] {
+            self.builder.command(guard, vec![[&weight[..], &self.leaves].concat()]);
+        }
+        self.builder.model
+    }
 }
 
 /// Entries that a model needs besides its pieces and the numbers over them.
@@ -246,4 +264,44 @@ pub fn many_sets() -> Hostile {
         }
     }
     maker.finish("many sets of 12 variables of two values", &numbers)
+}
+
+/// What is asked in a node of a chain: a guard for every command but the first, and the
+/// target. Each takes an entry, and what leads to the next node a few more.
+const CHAIN_ASKED: usize = MOST_COMMANDS;
+const CHAIN_SPARE: usize = CHAIN_ASKED + 4;
+
+/// A chain in which all that is asked hangs on one set of 12 two-valued variables, and uses
+/// most of the entries.
+pub fn chain_of_one_set() -> ModelData {
+    let mut maker = Maker::new(&[2; 15]);
+    let mut pieces = Vec::new();
+    while maker.left() > 2 * CHAIN_SPARE + 20 {
+        let entries = (maker.left() - 2 * CHAIN_SPARE).min(110);
+        pieces.push(maker.piece(&(1..=12).collect::<Vec<_>>(), entries, 2));
+    }
+    let next = |k: usize| pieces[k % pieces.len()];
+    let numbers: Vec<u16> = (0..CHAIN_ASKED)
+        .map(|k| maker.put([7, next(k).truth, next(k + 1).zero, next(k + 2).zero]))
+        .collect();
+    maker.finish_chain(&numbers)
+}
+
+/// A chain in which whatever is asked hangs on a set of its own of 12 two-valued variables.
+pub fn chain_of_many_sets() -> ModelData {
+    let mut maker = Maker::new(&[2; 15]);
+    let (others, taken, entries) = (12, 9, 20);
+    let pieces: Vec<Piece> = (1..=others)
+        .map(|v| {
+            let set: Vec<usize> = [v].into_iter().chain(others + 1..16).collect();
+            maker.piece(&set, entries, taken as u32 / 2 + 1)
+        })
+        .collect();
+    let mut made = HashMap::new();
+    let choices = choices(&(0..others).collect::<Vec<_>>(), taken).into_iter().step_by(3);
+    let numbers: Vec<u16> = choices
+        .take(CHAIN_ASKED)
+        .map(|choice| maker.join(&pieces, &choice, &mut made).expect("room is counted"))
+        .collect();
+    maker.finish_chain(&numbers)
 }

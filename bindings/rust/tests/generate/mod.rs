@@ -5,8 +5,10 @@
 //! reads expressions in its own way.
 #![allow(dead_code)]
 
+pub mod building;
 pub mod data;
 pub mod explore;
+pub mod filling;
 pub mod hostile;
 pub mod large;
 pub mod limits;

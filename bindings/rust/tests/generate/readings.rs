@@ -30,35 +30,35 @@ const FALSE: Due = Due::Truth(false);
 type Case = (&'static str, Vec<[i16; 3]>, u16, Made, Due);
 
 /// The entries of a model, each put by what it says.
-struct Entries(Builder);
+pub struct Entries(pub Builder);
 
 impl Entries {
-    fn put(&mut self, record: [u16; 4]) -> u16 {
+    pub fn put(&mut self, record: [u16; 4]) -> u16 {
         self.0.put(record).expect("few, flat and narrow")
     }
 
-    fn variable(&mut self, v: u16) -> u16 {
+    pub fn variable(&mut self, v: u16) -> u16 {
         self.put([1, v, 0, 0])
     }
 
-    fn constant(&mut self, c: i16) -> u16 {
+    pub fn constant(&mut self, c: i16) -> u16 {
         self.put([0, c as u16, 0, 0])
     }
 
-    fn always(&mut self) -> u16 {
+    pub fn always(&mut self) -> u16 {
         self.put([14, 0, 0, 0])
     }
 
-    fn not(&mut self, truth: u16) -> u16 {
+    pub fn not(&mut self, truth: u16) -> u16 {
         self.put([11, truth, 0, 0])
     }
 
-    fn is(&mut self, number: u16, c: i16) -> u16 {
+    pub fn is(&mut self, number: u16, c: i16) -> u16 {
         let constant = self.constant(c);
         self.put([8, number, constant, 0])
     }
 
-    fn variable_is(&mut self, v: u16, c: i16) -> u16 {
+    pub fn variable_is(&mut self, v: u16, c: i16) -> u16 {
         let variable = self.variable(v);
         self.is(variable, c)
     }

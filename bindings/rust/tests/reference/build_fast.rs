@@ -119,8 +119,8 @@ struct Building<'a> {
     /// Nodes with more in their label than is seen.
     unseen: Set,
     /// The node that was expanded or became a target last, as long as row 19 may ask for
-    /// more there.
-    fresh: Option<usize>,
+    /// more there, and of how much that it asks for the reading is known.
+    fresh: Option<(usize, usize)>,
 }
 
 impl<'a> Building<'a> {
@@ -190,7 +190,7 @@ impl<'a> Building<'a> {
         }
         self.waiting.remove(node);
         self.marked.insert(node);
-        self.fresh = Some(node);
+        self.fresh = Some((node, 0));
         true
     }
 
@@ -214,7 +214,7 @@ impl<'a> Building<'a> {
     /// Repairs what is broken, always the lowest node first; then the node that was fresh
     /// may cover those that nothing lower can.
     fn repair_all(&mut self) {
-        let new = self.fresh;
+        let new = self.fresh.map(|(node, _)| node);
         while let Some(node) = self.marked.lowest() {
             self.repair(node);
         }
@@ -284,21 +284,19 @@ impl<'a> Building<'a> {
     }
 
     /// What an expanded or target node is asked and reads unknown, the first by rows 19 and
-    /// 21 that is not known already.
+    /// 21. What was found to be known is not asked again.
     fn unknown(&mut self, node: usize) -> Option<usize> {
-        let is_fresh = self.fresh == Some(node);
-        if !is_fresh && self.unseen_child(node).is_none() {
+        let known = self.fresh.filter(|&(fresh, _)| fresh == node).map(|(_, known)| known);
+        if known.is_none() && self.unseen_child(node).is_none() {
             return None;
         }
-        let record = &self.graph.nodes[node];
-        self.readings.enter(record);
-        if is_fresh {
-            let mut asked = self.model.asked(record.kind);
-            let unknown = asked.find(|&entry| self.readings.read(entry, record) == Reading::Unknown);
-            if unknown.is_some() {
-                return unknown;
+        self.readings.enter(&self.graph.nodes[node]);
+        if let Some(known) = known {
+            let unknown = self.unknown_guard(node, known);
+            self.fresh = unknown.map(|(known, _)| (node, known));
+            if let Some((_, entry)) = unknown {
+                return Some(entry);
             }
-            self.fresh = None;
         }
         while let Some(child) = self.unseen_child(node) {
             if let Some(entry) = self.unknown_for(node, child) {
@@ -307,6 +305,15 @@ impl<'a> Building<'a> {
             self.unseen.remove(child);
         }
         None
+    }
+
+    /// The first of what row 19 asks that reads unknown, and how much comes before it, where
+    /// so much is known.
+    fn unknown_guard(&mut self, node: usize, known: usize) -> Option<(usize, usize)> {
+        let Building { model, graph, readings, .. } = self;
+        let node = &graph.nodes[node];
+        let mut asked = model.asked(node.kind).enumerate().skip(known);
+        asked.find(|&(_, entry)| readings.read(entry, node) == Reading::Unknown)
     }
 
     /// What reads unknown of that which is assigned to the variables of a child's label.

@@ -39,10 +39,10 @@ returns-2 : tie.Need-returns-2
 returns-2 c = opening-expand (c .before .before .before .before .before .before .before .before .before .before .before .before .before .before .before .before .before .before .before .before .before .before .before .before .pre .0) (c .before .before .before .before .before .before .before .before .before .before .before .before .before .before .before .before .before .before .before .before .before .before .before .before .pre .1 .0) (c .before .before .before .before .before .before .before .before .before .before .before .before .before .before .before .before .before .before .before .before .before .before .before .before .pre .1 .1) (c .before .before .before .before .before .before .before .before .before .before .before .before .before .before .before .before .before .before .before .before .state-of .ensures) (c .before .before .before .before .before .before .before .before .before .before .before .before .before .before .before .before .before .before .body .ensures) (c .before .before .before .before .before .before .before .before .before .before .before .before .before .before .before .before .before .field .ensures .0) (c .before .before .before .before .before .before .before .before .before .before .before .before .before .before .before .value-at .ensures) (c .before .before .before .before .before .before .before .before .before .before .before .before .before .before .equal .ensures ∙ ap (λ (z : ℤ). eqZ z (pos 1)) (back (c .before .before .before .before .before .before .before .before .before .before .before .before .before .before .before .value-at .ok))) (c .before .before .before .before .before .before .before .before .before .before .before .before .before .if1 .left) (c .before .before .before .before .before .before .before .before .before .before .before .before .body2 .ensures) (c .before .before .before .before .before .before .before .before .before .before .count-of .ensures) (c .before .before .before .before .before .before .before .before .before .cost-of .ensures .0) (c .before .before .before .before .before .before .before .before .before .cost-of .ensures .1) (c .before .before .before .before .if2 .taken) (c .before .before .before .before .before .before .before .before .variable-count .ensures .0) (c .before .before .before .before .before .before .before .node-size .ensures .0) (c .if3 .taken)
 
 returns-3 : tie.Need-returns-3
-returns-3 c = opening-long (c .before .before .before .before .before .before .before .before .before .before .before .before .before .before .before .before .before .before .before .before .before .before .before .before .pre .0) (c .before .before .before .before .before .before .before .before .before .before .before .before .before .before .before .before .before .before .before .before .before .before .before .before .pre .1 .0) (c .before .before .before .before .before .before .before .before .before .before .before .before .before .before .before .before .before .before .before .before .before .before .before .before .pre .1 .1) (c .before .before .before .before .before .before .before .before .before .before .before .before .before .before .before .before .before .before .before .before .state-of .ensures) (c .before .before .before .before .before .before .before .before .before .before .before .before .before .before .before .before .before .before .body .ensures) (c .before .before .before .before .before .before .before .before .before .before .before .before .before .before .before .before .before .field .ensures .0) (c .before .before .before .before .before .before .before .before .before .before .before .before .before .before .before .value-at .ensures) (c .before .before .before .before .before .before .before .before .before .before .before .before .before .before .equal .ensures ∙ ap (λ (z : ℤ). eqZ z (pos 1)) (back (c .before .before .before .before .before .before .before .before .before .before .before .before .before .before .before .value-at .ok))) (c .before .before .before .before .before .before .before .before .before .before .before .before .before .if1 .left) (c .before .before .before .before .before .before .before .before .before .before .before .before .body2 .ensures) (c .before .before .before .before .before .before .before .before .before .before .count-of .ensures) (c .before .before .before .before .before .before .before .before .before .cost-of .ensures .0) (c .before .before .before .before .before .before .before .before .before .cost-of .ensures .1) (c .before .before .before .before .if2 .taken) (c .before .before .before .before .before .before .before .before .variable-count .ensures .0) (c .before .before .before .before .before .before .before .node-size .ensures .0) (λ h. omega (arith, c .if3 .left))
+returns-3 c = opening-long (c .before .before .before .before .before .before .before .before .before .before .before .before .before .before .before .before .before .before .before .before .before .before .before .before .pre .0) (c .before .before .before .before .before .before .before .before .before .before .before .before .before .before .before .before .before .before .before .before .before .before .before .before .pre .1 .0) (c .before .before .before .before .before .before .before .before .before .before .before .before .before .before .before .before .before .before .before .before .before .before .before .before .pre .1 .1) (c .before .before .before .before .before .before .before .before .before .before .before .before .before .before .before .before .before .before .before .before .state-of .ensures) (c .before .before .before .before .before .before .before .before .before .before .before .before .before .before .before .before .before .before .body .ensures) (c .before .before .before .before .before .before .before .before .before .before .before .before .before .before .before .before .before .field .ensures .0) (c .before .before .before .before .before .before .before .before .before .before .before .before .before .before .before .value-at .ensures) (c .before .before .before .before .before .before .before .before .before .before .before .before .before .before .equal .ensures ∙ ap (λ (z : ℤ). eqZ z (pos 1)) (back (c .before .before .before .before .before .before .before .before .before .before .before .before .before .before .before .value-at .ok))) (c .before .before .before .before .before .before .before .before .before .before .before .before .before .if1 .left) (c .before .before .before .before .before .before .before .before .before .before .before .before .body2 .ensures) (c .before .before .before .before .before .before .before .before .before .before .count-of .ensures) (c .before .before .before .before .before .before .before .before .before .cost-of .ensures .0) (c .before .before .before .before .before .before .before .before .before .cost-of .ensures .1) (c .before .before .before .before .if2 .taken) (c .before .before .before .before .before .before .before .before .variable-count .ensures .0) (c .before .before .before .before .before .before .before .node-size .ensures .0) (c .if3 .left)
 
 returns-4 : tie.Need-returns-4
-returns-4 c = opening-many (c .before .before .before .before .before .before .before .before .before .before .before .before .before .before .before .before .before .before .before .before .pre .0) (c .before .before .before .before .before .before .before .before .before .before .before .before .before .before .before .before .before .before .before .before .pre .1 .0) (c .before .before .before .before .before .before .before .before .before .before .before .before .before .before .before .before .before .before .before .before .pre .1 .1) (c .before .before .before .before .before .before .before .before .before .before .before .before .before .before .before .before .state-of .ensures) (c .before .before .before .before .before .before .before .before .before .before .before .before .before .before .body .ensures) (c .before .before .before .before .before .before .before .before .before .before .before .before .before .field .ensures .0) (c .before .before .before .before .before .before .before .before .before .before .before .value-at .ensures) (c .before .before .before .before .before .before .before .before .before .before .equal .ensures ∙ ap (λ (z : ℤ). eqZ z (pos 1)) (back (c .before .before .before .before .before .before .before .before .before .before .before .value-at .ok))) (c .before .before .before .before .before .before .before .before .before .if1 .left) (c .before .before .before .before .before .before .before .before .body2 .ensures) (c .before .before .before .before .before .before .count-of .ensures) (c .before .before .before .before .before .cost-of .ensures .0) (c .before .before .before .before .before .cost-of .ensures .1) (λ h. omega (arith, c .if2 .left))
+returns-4 c = opening-many (c .before .before .before .before .before .before .before .before .before .before .before .before .before .before .before .before .before .before .before .before .pre .0) (c .before .before .before .before .before .before .before .before .before .before .before .before .before .before .before .before .before .before .before .before .pre .1 .0) (c .before .before .before .before .before .before .before .before .before .before .before .before .before .before .before .before .before .before .before .before .pre .1 .1) (c .before .before .before .before .before .before .before .before .before .before .before .before .before .before .before .before .state-of .ensures) (c .before .before .before .before .before .before .before .before .before .before .before .before .before .before .body .ensures) (c .before .before .before .before .before .before .before .before .before .before .before .before .before .field .ensures .0) (c .before .before .before .before .before .before .before .before .before .before .before .value-at .ensures) (c .before .before .before .before .before .before .before .before .before .before .equal .ensures ∙ ap (λ (z : ℤ). eqZ z (pos 1)) (back (c .before .before .before .before .before .before .before .before .before .before .before .value-at .ok))) (c .before .before .before .before .before .before .before .before .before .if1 .left) (c .before .before .before .before .before .before .before .before .body2 .ensures) (c .before .before .before .before .before .before .count-of .ensures) (c .before .before .before .before .before .cost-of .ensures .0) (c .before .before .before .before .before .cost-of .ensures .1) (c .if2 .left)
 
 pub opening-of-spec : {M : Type 1} → statement M
 opening-of-spec = tie.close (tie.spec (λ c. search needs) state-of-requires (λ c κs. search needs) (λ c κs. search needs) (λ c. search needs) (λ c κs. search needs) (λ c κs. search needs) returns (λ c κs. search needs) (λ c. search needs) (λ c κs. search needs) cost-of-requires (λ c κs. search needs) (λ c κs. search needs) add-if2 mul-if3 add-if3 add-if3-2 returns-2 returns-3 returns-4)

@@ -1,0 +1,445 @@
+//! Models whose graphs fill all the nodes that there may be: some that were made to keep a
+//! builder busy, and some as they are in use.
+
+use super::building::counting;
+use super::data::*;
+use super::hostile;
+use super::models::Builder;
+use super::random::Random;
+use super::readings::Entries;
+
+/// A model that is built as far as the nodes reach.
+pub struct Filling {
+    pub name: &'static str,
+    pub model: ModelData,
+}
+
+const BRANCHES: u16 = MOST_BRANCHES as u16;
+
+/// One of the truths holds; no deeper than it has to be.
+fn any(entries: &mut Entries, truths: &[u16]) -> u16 {
+    match truths {
+        [truth] => *truth,
+        _ => {
+            let (some, others) = truths.split_at(truths.len().div_ceil(2));
+            let (a, b) = (any(entries, some), any(entries, others));
+            entries.or(a, b)
+        }
+    }
+}
+
+/// Some variable from this one on has the highest value of its range. Where none has, that
+/// is known only if all of them are tracked.
+fn any_highest(entries: &mut Entries, from: usize) -> u16 {
+    let ends: Vec<i16> = entries.0.model.variables.iter().map(|&[_, high, _]| high).collect();
+    let highest = (from..ends.len()).map(|v| entries.variable_is(v as u16, ends[v])).collect::<Vec<_>>();
+    any(entries, &highest)
+}
+
+/// Fills up the entries, so that all of them are read wherever one is. Nothing asks for
+/// the new ones.
+fn pad(entries: &mut Entries) {
+    let mut last = entries.variable(0);
+    let one = entries.constant(1);
+    while entries.0.model.entries.len() < MOST_ENTRIES {
+        let deeper = entries.0.put_anew([5, last, one, 0]);
+        last = deeper.or_else(|| entries.0.put_anew([1, 0, 0, 0])).expect("there is room");
+    }
+}
+
+/// Commands with one branch for each state; the weights are as even as can be told.
+fn spread(entries: &mut Entries, guard: u16, states: Vec<Vec<u16>>) {
+    let total = entries.0.model.total;
+    for states in states.chunks(MOST_BRANCHES) {
+        let first = total - (states.len() as u16 - 1);
+        let weights = [first].into_iter().chain(std::iter::repeat(1));
+        entries.command(guard, weights.zip(states.iter().cloned()).collect());
+    }
+}
+
+// ------------------------------------------------------------------- dropped
+
+/// The root leads to `middle` nodes, and each of these to 16 × `per` that are alike but for
+/// what they carry. The lowest of them is expanded, and covers the others until its child
+/// asks for what is carried; then all the others are dropped, and the next is expanded.
+fn dropped(middle: i16, per: i16) -> ModelData {
+    let mut entries = Entries(Builder::new(BRANCHES, vec![[0, 3, 0], [0, 63, 0], [0, 63, 0], [0, 16, 0]]));
+    let phases: Vec<u16> = (0..4).map(|phase| entries.variable_is(0, phase)).collect();
+    let numbers: Vec<u16> = (0..64).map(|c| entries.constant(c)).collect();
+    let of = |c: i16| numbers[c as usize];
+    let first = (0..middle).map(|k| entries.changed(&[(0, of(1)), (1, of(k))])).collect();
+    spread(&mut entries, phases[0], first);
+    let second = (0..per).flat_map(|a| (0..16).map(move |b| (a, b)));
+    let second = second.map(|(a, b)| entries.changed(&[(0, of(2)), (2, of(a)), (3, of(b))])).collect();
+    spread(&mut entries, phases[1], second);
+    let third = entries.changed(&[(0, of(3))]);
+    spread(&mut entries, phases[2], vec![third]);
+    let carried = any_highest(&mut entries, 1);
+    let last = entries.and(phases[3], carried);
+    let unchanged = entries.unchanged();
+    spread(&mut entries, last, vec![unchanged]);
+    entries.0.model.target = entries.never();
+    entries.0.model
+}
+
+/// Two variables, a phase and a number: each of the first phases multiplies the number by so
+/// many and adds less than that, so that all nodes of a phase have numbers of their own.
+struct Numbered {
+    entries: Entries,
+    numbers: Vec<u16>,
+}
+
+const TOP: i16 = BOUND;
+
+impl Numbered {
+    fn new(phases: i16) -> Numbered {
+        let mut entries = Entries(Builder::new(64, vec![[0, phases - 1, 0], [0, TOP, 0]]));
+        let numbers = (0..64).map(|c| entries.constant(c)).collect();
+        Numbered { entries, numbers }
+    }
+
+    /// In a phase, by a guard that asks for the number.
+    fn guard(&mut self, phase: i16) -> u16 {
+        let (here, number) = (self.entries.variable_is(0, phase), self.entries.variable(1));
+        let any = self.entries.put([10, self.numbers[0], number, 0]);
+        self.entries.and(here, any)
+    }
+
+    /// The phase leads to so many nodes for each of its own, in the phase that an entry says.
+    fn multiply(&mut self, phase: i16, by: i16, next: u16) {
+        let entries = &mut self.entries;
+        let (number, least) = (entries.variable(1), entries.constant(TOP / by - 1));
+        let held = entries.put([5, number, least, 0]);
+        let product = entries.put([4, held, self.numbers[by as usize], 0]);
+        let state = |entries: &mut Entries, k: i16| {
+            let sum = entries.add(product, self.numbers[k as usize]);
+            vec![next, entries.fit(sum, 1)]
+        };
+        let states = (0..by).map(|k| state(entries, k)).collect();
+        let guard = self.guard(phase);
+        spread(&mut self.entries, guard, states);
+    }
+
+    /// The phase leads to another that has the same number, and that one asks for it.
+    fn ask_after(&mut self, phase: i16, next: i16) {
+        let entries = &mut self.entries;
+        let here = entries.variable_is(0, phase);
+        let state = entries.changed(&[(0, self.numbers[next as usize])]);
+        spread(entries, here, vec![state]);
+        let (there, is_top) = (entries.variable_is(0, next), entries.variable_is(1, TOP));
+        let asked = entries.and(there, is_top);
+        let unchanged = entries.unchanged();
+        spread(entries, asked, vec![unchanged]);
+    }
+
+    fn finish(mut self) -> ModelData {
+        self.entries.0.model.target = self.entries.never();
+        self.entries.0.model
+    }
+}
+
+/// The same with one number that is carried; the nodes that are alike come about in steps.
+fn dropped_by_number(factors: &[i16]) -> ModelData {
+    let last = factors.len() as i16;
+    let mut numbered = Numbered::new(last + 2);
+    for (phase, &factor) in factors.iter().enumerate() {
+        let next = numbered.numbers[phase + 1];
+        numbered.multiply(phase as i16, factor, next);
+    }
+    numbered.ask_after(last, last + 1);
+    numbered.finish()
+}
+
+/// The same with two families of nodes that are alike, by whether their number is below
+/// `half`. They are dropped in turns.
+fn dropped_in_turns(factors: &[i16], half: i16) -> ModelData {
+    let last = factors.len() as i16;
+    let mut numbered = Numbered::new(last + 4);
+    let (number, half) = (numbered.entries.variable(1), numbered.entries.constant(half));
+    let low = numbered.entries.put([9, number, half, 0]);
+    let families = [numbered.numbers[last as usize], numbered.numbers[last as usize + 1]];
+    let family = numbered.entries.put([7, low, families[0], families[1]]);
+    for (phase, &factor) in factors.iter().enumerate() {
+        let next = if phase + 1 == factors.len() { family } else { numbered.numbers[phase + 1] };
+        numbered.multiply(phase as i16, factor, next);
+    }
+    numbered.ask_after(last, last + 2);
+    numbered.ask_after(last + 1, last + 3);
+    numbered.finish()
+}
+
+// ------------------------------------------------------------------- tracked
+
+/// A chain by variable 0. At its end the target asks for all other variables, one after the
+/// other, and each goes back to the root. With `beside`, every node has a child more, which
+/// it covers.
+fn chain(length: i16, variables: usize, beside: bool) -> ModelData {
+    let mut ranges = vec![[0, 1, 0]; variables];
+    ranges[0] = [0, TOP, 0];
+    let mut entries = Entries(Builder::new(2, ranges));
+    let (counted, end) = (entries.variable(0), entries.constant(length));
+    let below = entries.put([9, counted, end, 0]);
+    let next = entries.next(0);
+    let (onward, unchanged) = (entries.changed(&[(0, next)]), entries.unchanged());
+    let branches = if beside { vec![(1, onward), (1, unchanged)] } else { vec![(2, onward)] };
+    entries.command(below, branches);
+    let at_end = entries.put([8, counted, end, 0]);
+    let others = any_highest(&mut entries, 1);
+    entries.0.model.target = entries.and(at_end, others);
+    pad(&mut entries);
+    entries.0.model
+}
+
+/// `middle` nodes lead to 16 × `per` each, and every one of these asks for all 16 variables,
+/// one after the other.
+fn all_asked(middle: i16, per: i16) -> ModelData {
+    let mut ranges = vec![[0, 1, 0]; MOST_VARIABLES];
+    ranges[..4].copy_from_slice(&[[0, 2, 0], [0, 63, 0], [0, 63, 0], [0, 16, 0]]);
+    let mut entries = Entries(Builder::new(BRANCHES, ranges));
+    let phases: Vec<u16> = (0..3).map(|phase| entries.variable_is(0, phase)).collect();
+    let numbers: Vec<u16> = (0..64).map(|c| entries.constant(c)).collect();
+    let of = |c: i16| numbers[c as usize];
+    let first = (0..middle).map(|k| entries.changed(&[(0, of(1)), (1, of(k))])).collect();
+    spread(&mut entries, phases[0], first);
+    let second = (0..per).flat_map(|a| (0..16).map(move |b| (a, b)));
+    let second = second.map(|(a, b)| entries.changed(&[(0, of(2)), (2, of(a)), (3, of(b))])).collect();
+    spread(&mut entries, phases[1], second);
+    let others = any_highest(&mut entries, 1);
+    let last = entries.and(phases[2], others);
+    let unchanged = entries.unchanged();
+    spread(&mut entries, last, vec![unchanged]);
+    entries.0.model.target = entries.never();
+    pad(&mut entries);
+    entries.0.model
+}
+
+/// Eight variables from 0 to `most`; commands at random that copy, reset and count them.
+fn at_random(most: i16, seed: u64) -> ModelData {
+    let mut random = Random::new(seed);
+    let variables = 8;
+    let mut entries = Entries(Builder::new(8, vec![[0, most, 0]; variables]));
+    let each = 0..variables as u16;
+    let is: Vec<u16> = each.flat_map(|v| (0..=most).map(move |c| (v, c))).map(|(v, c)| entries.variable_is(v, c)).collect();
+    for _ in 0..10 {
+        let guard = any_guard(&mut entries, &mut random, &is);
+        let count = 1 + random.below(3) as u16;
+        let states = (0..count).map(|_| any_state(&mut entries, &mut random, most)).collect();
+        spread(&mut entries, guard, states);
+    }
+    entries.0.model.target = entries.never();
+    entries.0.model
+}
+
+fn any_guard(entries: &mut Entries, random: &mut Random, is: &[u16]) -> u16 {
+    let [a, b, c] = [random.pick(is), random.pick(is), random.pick(is)];
+    match random.below(3) {
+        0 => {
+            let both = entries.and(a, b);
+            entries.not(both)
+        }
+        1 => entries.not(a),
+        _ => {
+            let both = entries.and(b, c);
+            entries.or(a, both)
+        }
+    }
+}
+
+fn any_state(entries: &mut Entries, random: &mut Random, most: i16) -> Vec<u16> {
+    let variables = entries.0.model.variables.len();
+    let mut value = |v: u16| match random.below(10) {
+        0..=5 => entries.variable(v),
+        6 => entries.next(v),
+        7 => entries.variable(random.below(variables) as u16),
+        8 => entries.constant(random.below(most as usize + 1) as i16),
+        _ => entries.next(random.below(variables) as u16),
+    };
+    (0..variables as u16).map(&mut value).collect()
+}
+
+// -------------------------------------------------------------------- in use
+
+/// A coin that some processes share (Aspnes and Herlihy): each flips a coin of its own and
+/// moves a counter by it, until the counter is near one of its ends.
+fn shared_coin(processes: u16, bound: i16) -> ModelData {
+    let range = 2 * (bound + 1) * processes as i16;
+    let mut ranges = vec![[0, range, range / 2]];
+    ranges.extend([[0, 3, 0], [0, 1, 0]].repeat(processes.into()));
+    let mut entries = Entries(Builder::new(2, ranges));
+    let [zero, one, two, three] = [0, 1, 2, 3].map(|c| entries.constant(c));
+    let counter = entries.variable(0);
+    let (down, up) = (entries.put([3, counter, one, 0]), entries.next(0));
+    let down = entries.fit(down, 0);
+    let [left, right] = [processes as i16, range - processes as i16].map(|end| entries.constant(end));
+    let [at_left, at_right] = [entries.put([10, counter, left, 0]), entries.put([10, right, counter, 0])];
+    let at_end = entries.or(at_left, at_right);
+    let on = entries.not(at_end);
+    for process in 0..processes {
+        let (step, coin) = (1 + 2 * process, 2 + 2 * process);
+        let at = [0, 1, 2].map(|c| entries.variable_is(step, c));
+        let flipped = [zero, one].map(|side| (1, entries.changed(&[(step, one), (coin, side)])));
+        entries.command(at[0], flipped.to_vec());
+        for (side, moved) in [(0, down), (1, up)] {
+            let side = entries.variable_is(coin, side);
+            let guard = entries.and(at[1], side);
+            let state = entries.changed(&[(0, moved), (step, two), (coin, zero)]);
+            entries.command(guard, vec![(2, state)]);
+        }
+        for (truth, next) in [(at_end, three), (on, zero)] {
+            let guard = entries.and(at[2], truth);
+            let state = entries.changed(&[(step, next)]);
+            entries.command(guard, vec![(2, state)]);
+        }
+    }
+    let done: Vec<u16> = (0..processes).map(|process| entries.variable_is(1 + 2 * process, 3)).collect();
+    entries.0.model.target = done.into_iter().reduce(|a, b| entries.and(a, b)).expect("some process");
+    entries.0.model
+}
+
+/// Tokens on a ring (Israeli and Jalfon): a scheduler picks one, which is passed to either
+/// side; two that meet are one. The target is a token in each place of the first half.
+fn token_ring(places: u16) -> ModelData {
+    let mut entries = Entries(Builder::new(2, vec![[0, 1, 1]; places.into()]));
+    let [zero, one] = [0, 1].map(|c| entries.constant(c));
+    for place in 0..places {
+        let here = entries.variable_is(place, 1);
+        let to = [(place + 1) % places, (place + places - 1) % places];
+        let passed = to.map(|to| (1, entries.changed(&[(place, zero), (to, one)])));
+        entries.command(here, passed.to_vec());
+    }
+    let held: Vec<u16> = (0..places / 2).map(|place| entries.variable_is(place, 0)).collect();
+    entries.0.model.target = held.into_iter().reduce(|a, b| entries.and(a, b)).expect("some place");
+    entries.0.model
+}
+
+/// A file is sent in so many parts over channels that may lose them and what acknowledges
+/// them; each part is sent again so many times. The target: the sender gives up, and cannot
+/// know whether the last part has arrived.
+fn sent_again(parts: i16, times: i16) -> ModelData {
+    // The sender, the part, how often it was sent, its bit, both channels, the receiver's bit
+    // and whether it has had the last part.
+    let [sender, part, sent, bit, there, back, seen, last] = [0, 1, 2, 3, 4, 5, 6, 7];
+    let mut ranges = vec![[0, 3, 0], [1, parts, 1], [0, times, 0]];
+    ranges.extend([[0, 1, 0], [0, 2, 0], [0, 2, 0], [0, 1, 0], [0, 1, 0]]);
+    let mut entries = Entries(Builder::new(100, ranges));
+    let numbers = [0, 1, 2, 3].map(|c| entries.constant(c));
+    let [zero, one, two, three] = numbers;
+    let flipped = |entries: &mut Entries, v: u16| {
+        let variable = entries.variable(v);
+        entries.put([3, one, variable, 0])
+    };
+    // Sent, or lost.
+    let ready = entries.variable_is(sender, 0);
+    let branches = [(98, one), (2, two)];
+    let branches = branches.map(|(weight, to)| (weight, entries.changed(&[(sender, one), (there, to)])));
+    entries.command(ready, branches.to_vec());
+    // Received, if it is new; acknowledged, which may be lost.
+    let arrived = entries.variable_is(there, 1);
+    let [own, its] = [entries.variable(bit), entries.variable(seen)];
+    let is_new = entries.put([8, own, its, 0]);
+    let other = flipped(&mut entries, seen);
+    let now_seen = entries.put([7, is_new, other, its]);
+    let (at, had) = (entries.variable_is(part, parts), entries.variable(last));
+    let now_had = entries.put([7, at, one, had]);
+    let branches = [(99, one), (1, two)].map(|(weight, to)| {
+        (weight, entries.changed(&[(there, zero), (back, to), (seen, now_seen), (last, now_had)]))
+    });
+    entries.command(arrived, branches.to_vec());
+    // Acknowledged: the next part, or done.
+    let acknowledged = entries.variable_is(back, 1);
+    let not_last = entries.not(at);
+    let (next, other) = (entries.next(part), flipped(&mut entries, bit));
+    let guard = entries.and(acknowledged, not_last);
+    let state = entries.changed(&[(sender, zero), (part, next), (sent, zero), (bit, other), (back, zero)]);
+    entries.command(guard, vec![(100, state)]);
+    let guard = entries.and(acknowledged, at);
+    let state = entries.changed(&[(sender, two), (back, zero)]);
+    entries.command(guard, vec![(100, state)]);
+    // Lost, one way or the other: sent again, or given up.
+    let lost = [there, back].map(|channel| entries.variable_is(channel, 2));
+    let lost = entries.or(lost[0], lost[1]);
+    let often = entries.variable_is(sent, times);
+    let not_often = entries.not(often);
+    let again = entries.next(sent);
+    let guard = entries.and(lost, not_often);
+    let state = entries.changed(&[(sender, zero), (sent, again), (there, zero), (back, zero)]);
+    entries.command(guard, vec![(100, state)]);
+    let guard = entries.and(lost, often);
+    let state = entries.changed(&[(sender, three), (there, zero), (back, zero)]);
+    entries.command(guard, vec![(100, state)]);
+    let given_up = entries.variable_is(sender, 3);
+    entries.0.model.target = entries.and(given_up, at);
+    entries.0.model
+}
+
+/// Some converters that are scanned in turn, each of which may stop responding. The target:
+/// an old reading is shown of one of them.
+fn converters(count: u16, old: i16) -> ModelData {
+    let mut ranges = vec![[0, count as i16 - 1, 0]];
+    ranges.extend([[0, 1, 0], [0, old, 0]].repeat(count.into()));
+    let mut entries = Entries(Builder::new(1_000, ranges));
+    let [zero, one] = [0, 1].map(|c| entries.constant(c));
+    let mut shown = Vec::new();
+    for turn in 0..count {
+        let (dead, age) = (1 + 2 * turn, 2 + 2 * turn);
+        let here = entries.variable_is(0, turn as i16);
+        let next = entries.constant(((turn + 1) % count) as i16);
+        let (is_dead, older) = (entries.variable_is(dead, 1), entries.next(age));
+        let alive = entries.not(is_dead);
+        let states = [
+            (997, vec![(0, next), (age, zero)]),
+            (2, vec![(0, next), (age, older)]),
+            (1, vec![(0, next), (age, older), (dead, one)]),
+        ];
+        let guard = entries.and(here, alive);
+        let states = states.map(|(weight, changes)| (weight, entries.changed(&changes)));
+        entries.command(guard, states.to_vec());
+        let guard = entries.and(here, is_dead);
+        let states = [(900, vec![(0, next), (age, older)]), (100, vec![(0, next), (age, zero), (dead, zero)])];
+        let states = states.map(|(weight, changes)| (weight, entries.changed(&changes)));
+        entries.command(guard, states.to_vec());
+        shown.push(entries.variable_is(age, old));
+    }
+    entries.0.model.target = shown.into_iter().reduce(|a, b| entries.or(a, b)).expect("some converter");
+    entries.0.model
+}
+
+// ----------------------------------------------------------------------- all
+
+/// Models that were made to keep a builder busy. But for the last two, which have all
+/// combinations of untracked variables to be tried in each node, none takes long.
+pub fn hostile() -> Vec<Filling> {
+    let named = |name, model| Filling { name, model };
+    vec![
+        named("dropped, from 3 nodes", dropped(3, 57)),
+        named("dropped, from 2 nodes", dropped(2, 60)),
+        named("dropped by a number", dropped_by_number(&[13, 14, 15])),
+        named("dropped in turns", dropped_in_turns(&[13, 14, 15], 1_365)),
+        named("a chain, 16 variables asked at its end", chain(4_095, MOST_VARIABLES, false)),
+        named("a chain that covers beside it", chain(2_047, MOST_VARIABLES, true)),
+        named("16 variables asked by each child", all_asked(5, 51)),
+        named("16 variables asked, by 992 children each", all_asked(4, 62)),
+        named("commands at random, 1", at_random(3, 1)),
+        named("commands at random, 2", at_random(5, 2)),
+    ]
+}
+
+/// Models as they are in use.
+pub fn in_use() -> Vec<Filling> {
+    let named = |name, model| Filling { name, model };
+    vec![
+        named("a coin that 4 processes share", shared_coin(4, 2)),
+        named("tokens on a ring of 12", token_ring(12)),
+        named("64 parts, sent again up to 5 times", sent_again(64, 5)),
+        named("6 converters scanned in turn", converters(6, 4)),
+        named("a counter", counting(BOUND, 1, 1)),
+    ]
+}
+
+/// Models of chains in whose nodes all combinations are to be tried, for every guard.
+pub fn combinations() -> Vec<Filling> {
+    vec![
+        Filling { name: "one set of 12 variables", model: hostile::chain_of_one_set() },
+        Filling { name: "many sets of 12 variables", model: hostile::chain_of_many_sets() },
+    ]
+}

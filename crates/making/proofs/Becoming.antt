@@ -1,0 +1,180 @@
+-- A kind changes: node n waits again, becomes a target, or is covered.
+-- Assumes nothing.
+use Prim.Native.Nat.{ℕ, _+_, _*_, _<_, _≤_, min, max}
+use mathlib.Core.Path.{_≡_, refl, sym, ap, _∙_, subst}
+use mathlib.Core.Bool.{Bool, true, false, false≢true}
+use mathlib.Core.Option.{some}
+use mathlib.Core.List.{List}
+use native.Mathlib.Decide.{decLt, ℕ-discrete}
+use native.Mathlib.Omega.{arith}
+use lib.ListN.{length, getD, set, length-set}
+use lib.Seq.{getD-set-same, getD-set-other}
+use Rattle.mdp.specs.Kinds.{Kind}
+use Rattle.folder.specs.Fields.{fieldLimit}
+use Rattle.model.specs.Layout.{variableCount}
+use Rattle.model.specs.Model.{Model, modelOf}
+use Rattle.model.specs.Valid.{Valid}
+use Rattle.graph.specs.Limits.{mostNodes}
+use Rattle.graph.specs.Simulation.{nodeSize}
+use Rattle.building.specs.First.{put}
+use Rattle.building.specs.Building.{Building, isOpen, kindNumber, ifExpanded}
+use Rattle.building.specs.Length.{graphLength}
+use Rattle.building.specs.Moves.{Move, drop, coverBy, reach, apply, becoming}
+use Rattle.building.specs.Working.{Settled, HintRight, ReachRight, MarkRight, NextRight}
+use Rattle.building.specs.Near.{OutOfReach}
+use Rattle.building.proofs.FirstLaws.{put-at, put-other}
+use Rattle.building.proofs.Lengths.{length-becoming}
+use Rattle.building.proofs.Working.{read-becoming, settled-becoming, parent-becoming, hint-becoming, reach-becoming, next-becoming, mark-becoming, all-settled, hint-put}
+use Rattle.put.specs.Put.{Stays}
+use Rattle.held.specs.Held.{kindField, coverField, parentField, readField, hintField, fieldCount, nodeIn, heldIn, putIn, Whole}
+use Rattle.held.proofs.FieldLaws.{whole-at, put-long, put-here, put-there, put-within}
+use Rattle.held.proofs.Made.{becomeIn, become-other, become-long, drop-made, cover-made, reach-made, held-same}
+use Rattle.nodes.proofs.Expanded.{variables-some}
+use Rattle.wants.specs.Standing.{readIn, parentIn, hintIn, rowIn}
+use Rattle.work.specs.Working.{limitOf, graphIn, Ready, Made, ToRepair, ToGrow}
+use Rattle.work.specs.declared.Work.{Work}
+use Rattle.making.proofs.Marks.{none-set}
+use Rattle.making.proofs.Moving.{stays-both, put-stays, working, Knows, valid, keeps, told-of, in-marks, made}
+
+not-expanded : {κ k : Kind} → κ ≡ k → ifExpanded k 1 ≡ 0 → ifExpanded κ 1 ≡ 0
+not-expanded e h = ap (λ (κ : Kind). ifExpanded κ 1) e ∙ h
+
+other-kind : {κ k : Kind} → (kindNumber κ ≡ kindNumber k → ⊥) → κ ≡ k → {A : Type 0} → A
+other-kind d e = absurd (d (ap kindNumber e))
+
+-- ---- the fields that stay
+module _ (m old new : List ℕ) (others : (i f : ℕ) → f < fieldCount (variableCount m) → (f ≡ kindField → ⊥) → (f ≡ coverField → ⊥) → (f ≡ hintField m → ⊥) → nodeIn m new i f ≡ nodeIn m old i f) where
+  read-same : readIn m new ≡ readIn m old
+  read-same = λ j i. others i readField (omega arith) (λ e. omega arith) (λ e. omega arith) (λ e. omega arith) j
+
+  parent-same : parentIn m new ≡ parentIn m old
+  parent-same = λ j i. others i parentField (omega arith) (λ e. omega arith) (λ e. omega arith) (λ e. omega arith) j
+
+  parent-low : (nodes : ℕ) → ((i : ℕ) → i < nodes → parentIn m old i < nodes) → (i : ℕ) → i < nodes → parentIn m new i < nodes
+  parent-low nodes h = subst (λ (f : ℕ → ℕ). (i : ℕ) → i < nodes → f i < nodes) (sym parent-same) h
+
+-- Kind and cover alone are written.
+module _ (m nb : List ℕ) (n k c : ℕ) where
+  abbrev vars : ℕ
+  vars = variableCount m
+
+  kind-others : (i f : ℕ) → f < fieldCount vars → (f ≡ kindField → ⊥) → (f ≡ coverField → ⊥) → (f ≡ hintField m → ⊥) → nodeIn m (becomeIn vars nb n k c) i f ≡ nodeIn m nb i f
+  kind-others i f l p q h = become-other vars nb n k c i f l (λ e. p) (λ e. q)
+
+  hint-same : Valid m → hintIn m (becomeIn vars nb n k c) ≡ hintIn m nb
+  hint-same v = λ j i. become-other vars nb n k c i (hintField m) (omega (arith, variables-some v)) (λ e z. omega arith) (λ e z. omega arith) j
+
+  kind-stays : (nodes : ℕ) → n < nodes → Stays 0 (nodeSize vars * nodes) nb (becomeIn vars nb n k c)
+  kind-stays nodes l =
+      stays-both (put-stays vars nb n kindField k (omega arith) nodes l) (put-stays vars (putIn vars nb n kindField k) n coverField c (omega arith) nodes l)
+
+-- ---- node n is not expanded, neither before nor after
+module _ {m masks : List ℕ} {longest : ℕ} {w : Work} {nb marks reaches : List ℕ} (mv : Move) (R : Ready m masks longest w nb marks reaches (some mv)) (n : ℕ) (κ : Kind) (c : ℕ)
+    (same : becoming n κ c (graphIn m w nb) ≡ apply (modelOf m) mv (graphIn m w nb)) (was : ifExpanded (graphIn m w nb .kind n) 1 ≡ 0) (is : ifExpanded κ 1 ≡ 0) (new : List ℕ)
+    (others : (i f : ℕ) → f < fieldCount (variableCount m) → (f ≡ kindField → ⊥) → (f ≡ coverField → ⊥) → (f ≡ hintField m → ⊥) → nodeIn m new i f ≡ nodeIn m nb i f) where
+  abbrev M : Model
+  M = modelOf m
+
+  abbrev B : Building
+  B = graphIn m w nb
+
+  abbrev U : Building
+  U = becoming n κ c B
+
+  later : κ ≡ Kind.expanded → ⊥
+  later e = let z : _≡_ {A = ℕ} 1 0 = sym (ap (λ (k : Kind). ifExpanded k 1) e) ∙ is in omega arith
+
+  kind-changed : (fresh low high next : ℕ) {marks′ reaches′ : List ℕ} → heldIn m (w .nodes) new ≡ apply M mv B
+      → Settled M B fresh → HintRight M U (hintIn m new) fresh → ReachRight M U (rowIn reaches′) → MarkRight M U (rowIn marks′) low high → NextRight M U next
+      → (low ≤ high) × (high ≤ w .nodes) × (next ≤ w .nodes) × (fresh ≤ mostNodes) → ((x : ℕ) → rowIn reaches′ x ≤ w .nodes) → length marks′ ≡ length marks → length reaches′ ≡ length reaches
+      → Stays 0 (nodeSize (variableCount m) * w .nodes) nb new
+      → Made m masks longest w nb (some mv) (working (w .nodes) (w .len) fresh low high next) new marks′ reaches′
+  kind-changed fresh low high next {marks′} {reaches′} held s h r k x window bound long longer stays = made mv R held
+      (subst (Knows m (working (w .nodes) (w .len) fresh low high next) new marks′ reaches′) same (record {
+        counted = R .lent .counted ∙ sym (length-becoming M B n κ c was is);
+        read = rw (read-same m nb new others) (read-becoming M B n κ c later (R .standing .read));
+        parents = rw (parent-same m nb new others) (parent-becoming M B n κ c later (R .parents));
+        settled = settled-becoming M B n κ c later s;
+        hints = h;
+        covering = r;
+        marked = k;
+        next = x;
+      }))
+      (record {
+        grows = omega arith;
+        window = (window .0, window .1, window .2);
+        fresh = window .3;
+        bounds = (parent-low m nb new others (w .nodes) (R .bounds .0), bound);
+        rows = (omega (arith, R .rows .0), omega (arith, R .rows .1));
+      })
+      stays
+
+-- ---- n's cover is dropped
+module _ {m masks : List ℕ} {longest : ℕ} {w : Work} {nb marks reaches : List ℕ} {n : ℕ} (R : Ready m masks longest w nb marks reaches (some (drop n))) where
+  drop-unmarked : (i : ℕ) → max (w .high) n ≤ i → Dec (i ≡ n) → rowIn (set marks n 0) i ≡ 0
+  drop-unmarked i h (yes e) =
+      ap (λ (j : ℕ). getD (set marks n 0) j 0) e ∙ getD-set-same marks n 0 0 (in-marks (drop n) R (told-of (drop n) R .0))
+  drop-unmarked i h (no d) = getD-set-other marks n i 0 0 d ∙ R .to-make .marked .above i (omega arith)
+
+  pub dropped : Made m masks longest w nb (some (drop n)) (working (w .nodes) (w .len) (w .fresh) n (max (w .high) n) (min (w .next) n)) (becomeIn (variableCount m) nb n 0 0) (set marks n 0) reaches
+  dropped =
+      let g = told-of (drop n) R in
+      let B : Building = graphIn m w nb in
+      let later : Kind.waiting ≡ Kind.expanded → ⊥ = λ e. other-kind (λ z. omega arith) e in
+      kind-changed (drop n) R n Kind.waiting 0 refl (not-expanded (g .1) refl) refl (becomeIn (variableCount m) nb n 0 0) (kind-others m nb n 0 0) (w .fresh) n (max (w .high) n) (min (w .next) n)
+      (drop-made m (w .nodes) nb (R .standing .held .long) n (g .0))
+      (R .settled)
+      (rw (hint-same m nb n 0 0 (valid (drop n) R)) (hint-becoming (modelOf m) B n Kind.waiting 0 later (λ e. absurd (false≢true e)) (λ l. refl) (R .to-make .hints)))
+      (reach-becoming (modelOf m) B n Kind.waiting 0 later (λ e. other-kind (λ z. omega arith) e) (λ x. omega arith) (R .covering))
+      (mark-becoming (modelOf m) B n Kind.waiting 0 later (limitOf longest) (keeps (drop n) R) (drop n) refl (λ i d. d) (R .to-make .marked)
+      (λ i l z. (λ e. refl, λ d. sym (getD-set-other marks n i 0 0 d) ∙ z))
+      (λ i l. getD-set-other marks n i 0 0 (λ e. omega arith) ∙ R .to-make .marked .below i l)
+      (λ i h. drop-unmarked i h (ℕ-discrete i n)))
+      (next-becoming (modelOf m) B n Kind.waiting 0 later (omega arith) (λ e. omega arith) (R .waits))
+      (omega arith, omega (arith, R .window .0, g .0), omega (arith, R .window .1), R .window .2)
+      (R .bounds .1)
+      (length-set marks n 0)
+      refl
+      (kind-stays m nb n 0 0 (w .nodes) (g .0))
+
+-- ---- n, which waited, goes on: nothing was marked, and it alone is then
+module _ {m : List ℕ} {w : Work} {nb marks : List ℕ} {n : ℕ} (T : ToGrow m w nb marks n) where
+  nothing-marked : (i : ℕ) → rowIn marks i ≡ 0
+  nothing-marked i = go (decLt i (w .high))
+    where
+      go : Dec (i < w .high) → rowIn marks i ≡ 0
+      go (yes l) = T .marked .below i l
+      go (no d) = T .marked .above i (omega arith)
+
+  pub marked-alone : (i : ℕ) → (i ≡ n → ⊥) → rowIn (set marks n 1) i ≡ 0
+  marked-alone i d = getD-set-other marks n i 1 0 d ∙ nothing-marked i
+
+-- Its kind, where it is not expanded.
+module _ {m masks : List ℕ} {longest : ℕ} {w : Work} {nb marks reaches : List ℕ} {n : ℕ} {mv : Move} (R : Ready m masks longest w nb marks reaches (some mv)) (T : ToGrow m w nb marks n)
+    (l : n < w .nodes) (κ : Kind) (c : ℕ) (later : κ ≡ Kind.expanded → ⊥) (same : apply (modelOf m) mv (graphIn m w nb) ≡ becoming n κ c (graphIn m w nb))
+    (near : (i : ℕ) → (i ≡ n → ⊥) → OutOfReach (modelOf m) (graphIn m w nb) i mv) where
+  alone-marked : MarkRight (modelOf m) (becoming n κ c (graphIn m w nb)) (rowIn (set marks n 1)) n (n + 1)
+  alone-marked = mark-becoming (modelOf m) (graphIn m w nb) n κ c later (limitOf longest) (keeps mv R) mv same near (T .marked)
+      (λ i p z. let a = none-set marks n i (in-marks mv R l) z in (λ e. absurd (a .1 e), λ d. a .0))
+      (λ i p. marked-alone T i (λ e. omega arith))
+      (λ i p. marked-alone T i (λ e. omega arith))
+
+-- ---- n becomes a target
+module _ {m masks : List ℕ} {longest : ℕ} {w : Work} {nb marks reaches : List ℕ} {n : ℕ} (R : Ready m masks longest w nb marks reaches (some (reach n))) where
+  pub targeted : Made m masks longest w nb (some (reach n)) (working (w .nodes) (w .len) n n (n + 1) n) (becomeIn (variableCount m) nb n 3 0) (set marks n 1) reaches
+  targeted =
+      let g = told-of (reach n) R in
+      let B : Building = graphIn m w nb in
+      let later : Kind.target ≡ Kind.expanded → ⊥ = λ e. other-kind (λ z. omega arith) e in
+      kind-changed (reach n) R n Kind.target 0 refl (not-expanded (g .1) refl) refl (becomeIn (variableCount m) nb n 3 0) (kind-others m nb n 3 0) n n (n + 1) n
+      (reach-made m (w .nodes) nb (R .standing .held .long) n (g .0))
+      (all-settled (modelOf m) B (R .to-make .mended) n)
+      (rw (hint-same m nb n 3 0 (valid (reach n) R)) (hint-becoming (modelOf m) B n Kind.target 0 later (λ e. refl) (λ l. absurd (omega arith)) (R .to-make .hints)))
+      (reach-becoming (modelOf m) B n Kind.target 0 later (λ e. other-kind (λ z. omega arith) e) (λ x. omega arith) (R .covering))
+      (alone-marked R (R .to-make) (g .0) Kind.target 0 later refl (λ i d. d))
+      (next-becoming (modelOf m) B n Kind.target 0 later (omega arith) (λ e. omega arith) (R .to-make .next))
+      (omega arith, omega (arith, g .0), omega (arith, g .0), omega (arith, g .0, keeps (reach n) R .few))
+      (R .bounds .1)
+      (length-set marks n 1)
+      refl
+      (kind-stays m nb n 3 0 (w .nodes) (g .0))

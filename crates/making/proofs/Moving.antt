@@ -1,0 +1,191 @@
+-- The move that is next is made: what is left to show, and that the records then hold all that the builder's loop keeps.
+-- Assumes nothing.
+use Prim.Native.Nat.{ℕ, _+_, _*_, _<_, _≤_}
+use mathlib.Core.Path.{_≡_, sym, ap, _∙_, subst, transport}
+use mathlib.Core.Option.{Option, some}
+use mathlib.Core.List.{List}
+use native.Mathlib.Omega.{arith}
+use lib.ListN.{length}
+use Rattle.mdp.specs.Kinds.{Kind}
+use Rattle.folder.specs.Fields.{fieldLimit}
+use Rattle.model.specs.Layout.{variableCount}
+use Rattle.model.specs.Model.{Model, modelOf}
+use Rattle.model.specs.Valid.{Valid}
+use Rattle.graph.specs.Limits.{leastBytes, mostNodes}
+use Rattle.graph.specs.Simulation.{nodeSize}
+use Rattle.building.specs.Building.{Building, births}
+use Rattle.building.specs.Length.{graphLength, lengthWith}
+use Rattle.building.specs.Moves.{Limit, Move, track, adopt, drop, coverBy, reach, expand, apply, nextMove}
+use Rattle.building.specs.Kept.{Kept, Apt, may-track, may-adopt, may-drop, may-coverBy, may-reach, may-expand}
+use Rattle.building.specs.Built.{Reached}
+use Rattle.building.specs.Working.{ReadRight, ParentRight, Settled, HintRight, ReachRight, MarkRight, NextRight}
+use Rattle.building.proofs.Aptness.{next-apt}
+use Rattle.building.proofs.Keeping.{kept}
+use Rattle.building.proofs.Ending.{reached-by}
+use Rattle.building.proofs.Short.{short-kept}
+use Rattle.put.specs.Put.{Stays}
+use Rattle.held.specs.Held.{fieldCount, putIn, Whole}
+use Rattle.held.proofs.FieldLaws.{record-at, whole-at, put-within}
+use Rattle.wants.specs.Standing.{readIn, parentIn, hintIn, rowIn}
+use Rattle.work.specs.Working.{limitOf, graphIn, Ready, Made}
+use Rattle.work.specs.declared.Work.{Work}
+
+-- ---- bytes that stay
+pub stays-both : {a b : ℕ} {old mid new : List ℕ} → Stays a b old mid → Stays a b mid new → Stays a b old new
+stays-both s t = record { long = t .long ∙ s .long; below = λ j h. t .below j h ∙ s .below j h; past = λ j h. t .past j h ∙ s .past j h }
+
+pub stays-wide : {a b c : ℕ} {old new : List ℕ} → b ≤ c → Stays a b old new → Stays 0 c old new
+stays-wide h s = record { long = s .long; below = λ j l. absurd (omega arith); past = λ j l. s .past j (omega arith) }
+
+-- In the record of a node that is counted.
+pub put-stays : (vars : ℕ) (nb : List ℕ) (n f u : ℕ) → f < fieldCount vars → (nodes : ℕ) → n < nodes → Stays 0 (nodeSize vars * nodes) nb (putIn vars nb n f u)
+put-stays vars nb n f u l nodes there = stays-wide (record-at (nodeSize vars) n nodes there) (put-within vars nb n f u l)
+
+-- ---- the numbers after a move
+pub record Numbers (w : Work) (nodes len fresh low high next : ℕ) : Type 0 where
+  pub nodes-are : w .nodes ≡ nodes
+  pub len-is : w .len ≡ len
+  pub fresh-is : w .fresh ≡ fresh
+  pub low-is : w .low ≡ low
+  pub high-is : w .high ≡ high
+  pub next-is : w .next ≡ next
+
+pub numbers : {w : Work} {nodes len fresh low high next : ℕ} → (w .nodes ≡ nodes) × (w .len ≡ len) × (w .fresh ≡ fresh) × (w .low ≡ low) × (w .high ≡ high) × (w .next ≡ next)
+    → Numbers w nodes len fresh low high next
+numbers p = record { nodes-are = p .0; len-is = p .1; fresh-is = p .2; low-is = p .3; high-is = p .4; next-is = p .5 }
+
+abbrev pub working : (nodes len fresh low high next : ℕ) → Work
+working nodes len fresh low high next = record { nodes = nodes; len = len; fresh = fresh; low = low; high = high; next = next }
+
+pub numbers-are : {w : Work} {nodes len fresh low high next : ℕ} → Numbers w nodes len fresh low high next → working nodes len fresh low high next ≡ w
+numbers-are N = λ i. record { nodes = sym (N .nodes-are) i; len = sym (N .len-is) i; fresh = sym (N .fresh-is) i; low = sym (N .low-is) i; high = sym (N .high-is) i; next = sym (N .next-is) i }
+
+-- The records and the numbers, by other names.
+pub made-as : {m masks nb nb′ nb″ marks′ reaches′ : List ℕ} {longest : ℕ} {w w′ : Work} {o : Option Move} {nodes len fresh low high next : ℕ} → Numbers w′ nodes len fresh low high next → nb″ ≡ nb′
+    → Made m masks longest w nb o (working nodes len fresh low high next) nb′ marks′ reaches′ → Made m masks longest w nb o w′ nb″ marks′ reaches′
+made-as {m} {masks} {nb} {marks′ = marks′} {reaches′ = reaches′} {longest = longest} {w = w} {o = o} N e h = transport (λ i. Made m masks longest w nb o (numbers-are N i) (sym e i) marks′ reaches′) h
+
+-- ---- what a move that may be made tells of its node
+abbrev pub Given : Model → Limit → Building → Move → Type 0
+Given M P B (track n v) = (n < B .nodes) × (v < M .variables)
+Given M P B (adopt n) = (n < B .nodes) × (B .kind n ≡ Kind.covered)
+Given M P B (drop n) = (n < B .nodes) × (B .kind n ≡ Kind.covered)
+Given M P B (coverBy n c) = (n < B .nodes) × (B .kind n ≡ Kind.waiting) × (c < B .nodes)
+Given M P B (reach n) = (n < B .nodes) × (B .kind n ≡ Kind.waiting)
+Given M P B (expand n) = (n < B .nodes) × (B .kind n ≡ Kind.waiting) × (B .nodes + births M (B .state n) ≤ P .most) × (lengthWith M B n ≤ P .longest)
+
+given : {M : Model} {P : Limit} {B : Building} (mv : Move) → Apt M P B mv → Given M P B mv
+given mv (may-track l k u) = (l, k)
+given mv (may-adopt v l c k t u) = (l, c)
+given mv (may-drop l c x) = (l, c)
+given mv (may-coverBy l w k o x) = (l, w, k)
+given mv (may-reach l w t) = (l, w)
+given mv (may-expand l w t room fits) = (l, w, room, fits)
+
+-- ---- what is to be shown of the building C that the move makes, and of the rows
+pub record Knows (m : List ℕ) (w : Work) (nb marks reaches : List ℕ) (C : Building) : Type 0 where
+  pub counted : w .len ≡ graphLength (modelOf m) C
+  pub read : ReadRight (modelOf m) C (readIn m nb)
+  pub parents : ParentRight (modelOf m) C (parentIn m nb)
+  pub settled : Settled (modelOf m) C (w .fresh)
+  pub hints : HintRight (modelOf m) C (hintIn m nb) (w .fresh)
+  pub covering : ReachRight (modelOf m) C (rowIn reaches)
+  pub marked : MarkRight (modelOf m) C (rowIn marks) (w .low) (w .high)
+  pub next : NextRight (modelOf m) C (w .next)
+
+pub record Within (m : List ℕ) (old : ℕ) (w : Work) (nb marks reaches : List ℕ) : Type 0 where
+  pub grows : old ≤ w .nodes
+  pub window : (w .low ≤ w .high) × (w .high ≤ w .nodes) × (w .next ≤ w .nodes)
+  pub fresh : w .fresh ≤ mostNodes
+  pub bounds : ((i : ℕ) → i < w .nodes → parentIn m nb i < w .nodes) × ((x : ℕ) → rowIn reaches x ≤ w .nodes)
+  pub rows : (mostNodes ≤ length marks) × (mostNodes ≤ length reaches)
+
+-- The nodes take part of the length.
+nodes-within : (M : Model) (C : Building) (nodes : ℕ) → C .nodes ≡ nodes → {l : ℕ} → graphLength M C ≤ leastBytes + l → nodeSize (M .variables) * nodes ≤ l
+unfolding graphLength
+nodes-within M C nodes e h = rw (← e) (omega arith)
+
+module _ {m masks : List ℕ} {longest : ℕ} {w : Work} {nb marks reaches : List ℕ} (mv : Move) (R : Ready m masks longest w nb marks reaches (some mv)) where
+  abbrev M : Model
+  M = modelOf m
+
+  abbrev P : Limit
+  P = limitOf longest
+
+  abbrev B : Building
+  B = graphIn m w nb
+
+  pub valid : Valid m
+  valid = R .standing .held .model
+
+  pub keeps : Kept M mostNodes B
+  keeps = R .standing .held .kept
+
+  next-move : nextMove M P B ≡ some mv
+  next-move = sym (R .next)
+
+  apt : Apt M P B mv
+  apt = next-apt M P (valid .model) B keeps mv next-move
+
+  pub told-of : Given M P B mv
+  told-of = given mv apt
+
+  -- What the code asks of a node that is counted.
+  module _ {n : ℕ} (there : n < w .nodes) where
+    pub in-field : n < fieldLimit
+    in-field = omega (arith, there, keeps .few)
+
+    pub in-marks : n < length marks
+    in-marks = omega (arith, there, keeps .few, R .rows)
+
+    pub in-reaches : n < length reaches
+    in-reaches = omega (arith, there, keeps .few, R .rows)
+
+    pub record-there : {vars : ℕ} → vars ≡ variableCount m → Whole vars nb n
+    record-there e = subst (λ (v : ℕ). Whole v nb n) (sym e) (whole-at (variableCount m) nb n (w .nodes) there (R .standing .held .long))
+
+  after-kept : Kept M mostNodes (apply M mv B)
+  after-kept = kept M P (valid .model) B keeps mv apt
+
+  after-short : graphLength M (apply M mv B) ≤ longest
+  after-short = short-kept M P B mv apt (rw (← R .lent .counted) (R .lent .short))
+
+  pub made : {w′ : Work} {nb′ marks′ reaches′ : List ℕ} → graphIn m w′ nb′ ≡ apply M mv B → Knows m w′ nb′ marks′ reaches′ (apply M mv B) → Within m (w .nodes) w′ nb′ marks′ reaches′
+      → Stays 0 (nodeSize (variableCount m) * w′ .nodes) nb nb′ → Made m masks longest w nb (some mv) w′ nb′ marks′ reaches′
+  made {w′} {nb′} {marks′} {reaches′} e f h s =
+      let k : Knows m w′ nb′ marks′ reaches′ (graphIn m w′ nb′) = subst (Knows m w′ nb′ marks′ reaches′) (sym e) f in
+      record {
+        is = e;
+        working = record {
+          standing = record {
+            held = record {
+              model = valid;
+              kept = subst (Kept M mostNodes) (sym e) after-kept;
+              long = nodes-within M (apply M mv B) (w′ .nodes) (ap (λ (C : Building). C .nodes) (sym e)) (omega (arith, after-short, R .lent .lent, s .long));
+            };
+            masked = R .standing .masked;
+            read = k .read;
+          };
+          reached = subst (Reached M P) (sym e) (reached-by M P mv (R .reached) next-move);
+          lent = record {
+            counted = k .counted;
+            short = omega (arith, f .counted, after-short);
+            lent = omega (arith, R .lent .lent, s .long);
+            limit = R .lent .limit;
+          };
+          known = record {
+            parents = k .parents;
+            settled = k .settled;
+            hints = k .hints;
+            covering = k .covering;
+            marked = k .marked;
+            next = k .next;
+            window = h .window;
+            fresh = h .fresh;
+            bounds = h .bounds;
+            rows = h .rows;
+          };
+        };
+        grows = h .grows;
+        stays = s;
+      }
