@@ -7,18 +7,19 @@ import re
 import shlex
 import sys
 
-from . import check, explain, graphs, models, native, series, shared, texts, where
+from . import builder, check, explain, graphs, models, native, series, shared, texts, where
 from .errors import InputError, UsageError
-from .files import STANDARD, at_most_one_standard, load, of, save
-from .findings import ADVICE, FIGURE_REFUSALS, MEANING
+from .files import STANDARD, at_most_one_standard, load, named, of, save
+from .findings import ADVICE, CALL_REFUSALS, MEANING
 from .inputs import model_names, pair_of
+from .model_rules import model_finding
 from .names import save_model
 from .output import DONE, REFUSED, USAGE, emit, guarded, plain, say, say_error
 from .version import version
 from .words import Parser, ShowVersion
 
 PROGRAM = "laguipy"
-COMMANDS = ("check", "figures", "index", "model", "graph", "show", "explain")
+COMMANDS = ("check", "figures", "index", "model", "build", "graph", "show", "explain")
 
 ABOUT = """\
 Checks simulation graphs of Markov decision processes. What it reports of an accepted graph is proved: no strategy
@@ -29,6 +30,7 @@ reaches a target with a greater chance than the root value.
   laguipy index DIR          which nodes share a concrete state, and which node has a given one
   laguipy explain DIR        what a refusal means here, and what to do
   laguipy model FILE         text to a model folder, checked
+  laguipy build DIR          a graph of model.fold in DIR, built by the proved library
   laguipy graph FILE         text to a graph folder, checked
   laguipy show FOLD          a folder as text
 
@@ -110,8 +112,8 @@ def refused(args, refusal):
         emit(json.dumps({**refusal.data(), "meaning": meaning}) + "\n")
     else:
         emit(f"{refusal}\n")
-        # What the graph check accepts, explain has nothing to say of.
-        more = ADVICE[refusal.number] if refusal.number in FIGURE_REFUSALS else f"`{PROGRAM} explain` says more"
+        # What the checks accept, explain has nothing to say of.
+        more = ADVICE[refusal.number] if refusal.number in CALL_REFUSALS else f"`{PROGRAM} explain` says more"
         say(PROGRAM, f"{refusal.number}: {meaning}; {more}")
     return REFUSED
 
@@ -142,10 +144,14 @@ def run_index(args):
     return DONE
 
 
-def finish_text(args, out, written, wrong, store):
-    """Stores what a text gave, if it is right or wanted all the same, and says what it is."""
+def check_room(args, out):
     if args.json and out == STANDARD:
         raise UsageError("with --json standard output has no room for the folder: name its file with -o")
+
+
+def finish_text(args, out, written, wrong, store):
+    """Stores what a text gave, if it is right or wanted all the same, and says what it is."""
+    check_room(args, out)
     if wrong and not args.anyway:
         if args.json:
             emit(json.dumps(wrong.data()) + "\n")
@@ -184,6 +190,56 @@ def run_graph(args):
     written, wrong = texts.graph_of(args.file, model_path, model)
     out = texts.default_out(args.file, args.out, "graph.fold")
     return finish_text(args, out, written, wrong, lambda: save(out, written.data, [args.file, model_path]))
+
+
+def refused_model(args, path, model, refusal):
+    """A refusal of a model in place of its graph, with what is there and what to do."""
+    names, wrong = model_names(path, model)
+    say_names(wrong)
+    found = texts.matching(model_finding(model, names), refusal)
+    told = found.placed if found else MEANING[refusal.number]
+    advice = found.advice if found and found.advice else ADVICE[refusal.number]
+    if args.json:
+        more = {"meaning": MEANING[refusal.number], "file": named(path), "message": told, "advice": advice}
+        emit(json.dumps({**refusal.data(), **more}) + "\n")
+    else:
+        emit(f"{refusal}\n")
+        say("", f"{named(path)}: {told} [{refusal.number}]; {advice}")
+    return REFUSED
+
+
+def finish_build(args, out, built, notes):
+    """Says what was built, and what is worth knowing of it."""
+    if out == STANDARD:
+        emit(built.data)
+        notes = [*built.told, *notes]
+    elif args.json:
+        emit(json.dumps({"answer": "done", "file": out, **built.values(), "notes": notes}) + "\n")
+        notes = []
+    else:
+        emit(f"{plain(out)}: " + "\n".join(built.told) + "\n")
+    for note in notes:
+        say(PROGRAM, note)
+    return DONE
+
+
+def run_build(args):
+    asked = builder.asked_for(args.rounds, args.nodes)
+    path, model = builder.model_in(args.place)
+    out = texts.default_out(path, args.out, "graph.fold")
+    check_room(args, out)
+    try:
+        built = builder.patiently(lambda: builder.build(model, asked), "building")
+    except native.Refusal as refusal:
+        if refusal.number in CALL_REFUSALS:
+            return refused(args, refusal)
+        return refused_model(args, path, model, refusal)
+    notes = builder.notes(built, path, out)
+    if out != STANDARD:
+        if builder.other_graph(out, built.data):
+            notes.insert(0, f"{out} was there, and is replaced")
+        save(out, built.data, [path])
+    return finish_build(args, out, built, [] if args.quiet else notes)
 
 
 def run_show(args):
@@ -291,6 +347,29 @@ def add_show(commands):
     command.add_argument("--entries", action="store_true", help="list a model's entries with their numbers in any case")
 
 
+BUILD = """\
+PLACE is a directory with model.fold, or a model folder. The graph is graph.fold beside it, or OUT; one that is there is
+replaced. It keeps every rule, whatever the model is: `laguipy check` accepts it.
+
+Nodes start with labels that track nothing, and track what a rule asks for. Building ends when no node waits, or when
+the next expansion would give more than N nodes; nodes that wait then count as certainty, the root value is a bound all
+the same, and there are no figures.
+
+Values start at certainty, and N rounds over the nodes lower them. A lower value moves up about one level of the graph
+in a round, and what can go on for ever counts as reaching a target, however many rounds there are. Figures do not
+depend on the values: `laguipy figures` has the chance within H steps.
+"""
+
+
+def add_build(commands):
+    command = add(commands, "build", run_build, "Builds a graph of a model.", BUILD)
+    command.add_argument("place", metavar="PLACE")
+    command.add_argument("-o", "--out", metavar="OUT", help="the graph; without it graph.fold beside the model")
+    command.add_argument("--rounds", metavar="N", help="of the values, 0 to 1000; without it 1000")
+    command.add_argument("--nodes", metavar="N", help="at most so many, 1 to 4096; without it 4096")
+    command.add_argument("-q", "--quiet", action="store_true", help="no remarks")
+
+
 def add_texts(commands):
     model = add(commands, "model", run_model, "Writes a model folder, and its names beside it, from text.", models.TEXT)
     graph = add(commands, "graph", run_graph, "Writes a graph folder from text.", graphs.TEXT)
@@ -316,6 +395,7 @@ def parser():
     add_figures(commands)
     add_index(commands)
     add_explain(commands)
+    add_build(commands)
     add_texts(commands)
     add_show(commands)
     return whole

@@ -26,7 +26,7 @@ class Finding(NamedTuple):
         return f"{self.at}: {self.text}" if self.at else self.text
 
 
-FIGURE_REFUSALS = (26, 27, 28)  # those of a figure alone, on a graph that the graph check accepts
+CALL_REFUSALS = (26, 27, 28, 34, 35)  # those of one call, on folders that the checks accept
 
 # What to do, where the finding itself does not say it.
 ADVICE = {
@@ -57,6 +57,7 @@ ADVICE = {
     27: "ask for at most 10000 steps; the root value is a bound for any number of them",
     28: "lend two rows of at least one element per node",
     34: "lend 8192 slots, whole states, an answer for each of them, and a listing element for each node",
+    35: "ask for at most 1000 rounds (place 1), in a slice of 28 bytes and 4 for each variable at least (place 0)",
 }
 
 # What a second place says, of the numbers that have one: where it is a variable, and where it is none.
@@ -104,4 +105,5 @@ MEANING = {
     32: "the command's guard is false in the state",
     33: "the command has no such branch",
     34: "a row of the index call has the wrong length",
+    35: "the slice is too short for a graph of one node, or over 1000 rounds are asked for",
 }

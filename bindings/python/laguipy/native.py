@@ -15,6 +15,7 @@ from array import array
 from typing import NamedTuple
 
 from . import where
+from .errors import counted
 from .limits import GRAPH_BYTES, MOST_NODES, MOST_ROUNDS, MOST_VARIABLES, SLOTS
 from .output import RunError
 
@@ -140,7 +141,7 @@ class Row:
         code, size = element
         view = row_view(row, what)
         if view.itemsize != size or view.format[-1:] not in FORMATS[code]:
-            raise TypeError(f"{what} has elements of {size} bytes, {'signed' if code == 'h' else 'unsigned'} "
+            raise TypeError(f"{what} has elements of {counted(size, 'byte')}, {'signed' if code == 'h' else 'unsigned'} "
                             f"(array({code!r})), and these are {view.format!r} of {view.itemsize}")
         if view.readonly:
             raise TypeError(f"{what} is written to, and this one can only be read")

@@ -109,14 +109,14 @@ def is_terminal(stream):
 
 class Ticker:
     """How far a long work has come, on standard error: on a terminal a line each second, which is gone at the end;
-    elsewhere a line each half minute. Nothing where the output itself is seen to come."""
+    elsewhere a line each half minute. Nothing where output comes meanwhile and is seen to."""
 
     SECONDS = {True: 1, False: 30}
 
-    def __init__(self, program="laguipy"):
+    def __init__(self, program="laguipy", output=True):
         self.program = program
         self.live = is_terminal(sys.stderr)
-        self.silent = is_terminal(sys.stdout)
+        self.silent = output and is_terminal(sys.stdout)
         self.last = time.monotonic()
         self.shown = False
 

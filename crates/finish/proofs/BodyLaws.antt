@@ -20,14 +20,13 @@ use Rattle.expressions.specs.Reading.{hasBit}
 use Rattle.model.specs.Layout.{variableCount}
 use Rattle.model.specs.Model.{Model, modelOf}
 use Rattle.graph.specs.Limits.{units}
-use Rattle.graph.specs.Simulation.{kindOf}
 use Rattle.building.specs.Building.{Building, startSet, enabled, before, edgeCommands, kindNumber, ifCovered, ifExpanded, labelValue}
 use Rattle.put.specs.Put.{unsigned}
-use Rattle.held.specs.Held.{kindField, coverField, childField, trackedField, stateField, fieldCount, nodeIn, stateIn, setIn, heldIn}
+use Rattle.held.specs.Held.{coverField, childField, stateField, fieldCount, nodeIn, stateIn, setIn, heldIn}
 use Rattle.held.proofs.Made.{counted-in}
 use Rattle.written.specs.Bytes.{chain, nodeFields, edgesFields}
 use Rattle.finish.specs.Finish.{certain}
-use Rattle.finish.specs.Laid.{finalValue, finalField, finalRecord, edgesFrom, whenExpanded, kindIn, ownEdges, ownCount, ownRecord}
+use Rattle.finish.specs.Laid.{finalValue, finalField, edgesFrom, whenExpanded, kindIn, ownEdges, ownCount, ownRecord}
 use Rattle.finish.proofs.FinalLaws.{value-concrete, value-label}
 use Rattle.finish.proofs.OwnLaws.{chain-same}
 

@@ -50,7 +50,7 @@ module _ (cs : List ℕ) (row : List ℤ) (child : ℕ) where
       omega (arith, length-append (chain c (edgeIn cs row child)) (edgeIn cs row child c), edges-long c, edge-long (onIn cs row c) c (field 4 cs c 1) (λ b. child + childrenIn cs row c + b))
 
 -- ---- one after the other
-chain-more : (c : ℕ) (f : ℕ → List ℕ) → chain c f ++ f c ≡ chain (c + 1) f
+pub chain-more : (c : ℕ) (f : ℕ → List ℕ) → chain c f ++ f c ≡ chain (c + 1) f
 unfolding chain
 chain-more c f = rw (add-one c)
 

@@ -7,8 +7,8 @@ use mathlib.Core.List.{List}
 use native.Mathlib.Decide.{decLt}
 use native.Mathlib.Omega.{arith}
 use borrow.Author.Tests.{lt-ltb, le-ltb, ne-eqb}
-use lib.Dec.{eqb, ltb}
-use lib.ListN.{length, getD}
+use lib.Dec.{eqb}
+use lib.ListN.{getD}
 use Rattle.mdp.specs.Kinds.{Kind}
 use Rattle.folder.specs.Fields.{fieldLimit}
 use Rattle.folder.specs.Pick.{pick}
@@ -18,7 +18,6 @@ use Rattle.folder.proofs.TabLaws.{length-tab, getD-tab, tab-same}
 use Rattle.expressions.specs.Reading.{hasBit}
 use Rattle.graph.specs.Simulation.{nodeSize, kindOf}
 use Rattle.building.specs.Building.{kindNumber, ifCovered}
-use Rattle.put.specs.Put.{Stays}
 use Rattle.put.proofs.PutLaws.{u16-past}
 use Rattle.held.specs.Held.{kindField, coverField, trackedField, stateField, fieldCount, putIn, Whole}
 use Rattle.finish.specs.Laid.{Laid, finalValue, finalField, finalRecord}
@@ -178,6 +177,7 @@ module _ {vars n edges i : ℕ} {old nb : List ℕ} (g : Going vars n edges i ol
   value-kept w h = kept (stateField + w) (λ l.
       let e : stateField + w - stateField ≡ w = omega arith in
       later-is vars old n edges (stateField + w) (omega arith) ∙ ap (finalValue vars old n) e ∙ sym (value-concrete vars old n refl h refl))
+
   same-here : i < fieldCount vars → finalField vars nb n edges i ≡ F i
   same-here l = field-same vars n edges old nb kind-kept set-kept value-kept i (λ e. ahead coverField (omega arith)) l
 

@@ -1,6 +1,6 @@
 -- Fields laid into a slice, one after the other.
 -- Assumes nothing.
-use Prim.Native.Nat.{ℕ, suc, _+_, _-_, _*_, _/_, _%_, _<_, _≤_}
+use Prim.Native.Nat.{ℕ, _+_, _-_, _*_, _/_, _%_, _<_, _≤_}
 use mathlib.Core.Path.{_≡_, refl, sym, ap, _∙_, subst}
 use mathlib.Core.List.{List, [], _∷_, _++_}
 use native.Mathlib.Nat.{mod-eq-of-lt, div-lt-iff-lt-mul}
@@ -23,6 +23,9 @@ fields-append [] vs = refl
 fields-append (x ∷ xs) vs = ap (λ (l : List ℕ). x % 256 ∷ x / 256 % 256 ∷ l) (fields-append xs vs)
 
 -- ---- fields that stand
+pub stand-none : (at : ℕ) (l : List ℕ) → Stand at [] l
+stand-none at l = record { is = λ j h. absurd (omega arith) }
+
 pub stand-then : {at : ℕ} {us vs l : List ℕ} → Stand at us l → Stand (at + 2 * length us) vs l → Stand at (us ++ vs) l
 stand-then {at} {us} {vs} {l} p q = record { is = λ j h. go j h (decLt j (2 * length us)) ∙ ap (λ (x : List ℕ). getD x j 0) (sym (fields-append us vs)) }
   where
@@ -55,7 +58,7 @@ stand-read {at} {us} {l} p k h s = bytes ∙ u16-fields us k s
 
 -- ---- fields that are laid
 pub laid-none : (at : ℕ) (l : List ℕ) → Laid at [] l l
-laid-none at l = record { stays = stays-none _ _ l; stand = record { is = λ j h. absurd (omega arith) } }
+laid-none at l = record { stays = stays-none _ _ l; stand = stand-none at l }
 
 pub laid-one : (l : List ℕ) (at u : ℕ) → at + 1 < length l → u < fieldLimit → Laid at (u ∷ []) l (put2 l at u)
 unfolding put2
@@ -91,12 +94,9 @@ tab-more i f = rw (add-one i)
 
 pub laid-more : (f : ℕ → ℕ) {at i u : ℕ} {old mid new : List ℕ} → Laid at (tab i f) old mid → at + 2 * i + 1 < length mid → u ≡ f i → u < fieldLimit → new ≡ put2 mid (at + 2 * i) u
     → Laid at (tab (i + 1) f) old new
-laid-more f {at} {i} {u} {old} {mid} {new} p h e s z =
-    let a : at + 2 * i ≡ at + 2 * length (tab i f) = omega (arith, length-tab i f) in
-    let one : Laid (at + 2 * i) (u ∷ []) mid (put2 mid (at + 2 * i) u) = laid-one mid (at + 2 * i) u h s in
-    let next : Laid (at + 2 * length (tab i f)) (f i ∷ []) mid new = subst (λ (l : List ℕ). Laid (at + 2 * length (tab i f)) (f i ∷ []) mid l) (sym z)
-        (subst (λ (x : ℕ). Laid (at + 2 * length (tab i f)) (x ∷ []) mid (put2 mid (at + 2 * i) u)) e (subst (λ (k : ℕ). Laid k (u ∷ []) mid (put2 mid (at + 2 * i) u)) a one)) in
-    subst (λ (us : List ℕ). Laid at us old new) (tab-more i f) (laid-then p next)
+laid-more f {at} {i} {u} {old} {mid} p h e s z =
+    let a : at + 2 * length (tab i f) ≡ at + 2 * i = omega (arith, length-tab i f) in
+    rw (← tab-more i f, ← e, z) (laid-then p (rw a (laid-one mid (at + 2 * i) u h s)))
 
 pub laid-start : (f : ℕ → ℕ) (at : ℕ) (l : List ℕ) → Laid at (tab 0 f) l l
 unfolding tab

@@ -3,3 +3,4 @@ pub mod FinalLaws
 pub mod EdgeLaws
 pub mod OwnLaws
 pub mod BodyLaws
+pub mod DoneLaws

@@ -13,7 +13,7 @@ use lib.IntN.{ℤ}
 use Rattle.mdp.specs.Kinds.{Kind}
 use Rattle.folder.specs.Fields.{fieldLimit}
 use Rattle.folder.specs.Pick.{pick}
-use Rattle.folder.specs.Contents.{body, countOf, field}
+use Rattle.folder.specs.Contents.{body, countOf}
 use Rattle.folder.specs.Tab.{tab, passing}
 use Rattle.folder.proofs.TabLaws.{passing-same}
 use Rattle.folder.proofs.ListLaws.{passing-few}
@@ -154,9 +154,6 @@ ended {m} {nb} {n} {at} fits {vars} {count} {end} {mid} {new} v o f = record {
       (subst (λ (k : ℕ). Laid (nodeSize k * n) (finalRecord k mid n count) mid new) v f);
   ends = o .ends;
 }
-
-pub ended-long : {m nb : List ℕ} {n at end : ℕ} {new : List ℕ} → Ended m nb n at end new → length new ≡ length nb
-ended-long e = e .final .stays .long ∙ e .edges .stays .long
 
 -- The record is there.
 pub record-room : {m nb : List ℕ} {n at : ℕ} → Fits m nb n at → {vars count end : ℕ} {mid : List ℕ} → vars ≡ variableCount m → OwnLaid m nb n at count end mid → Whole vars mid n

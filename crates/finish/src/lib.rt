@@ -38,7 +38,11 @@ const EDGES: usize = 4;
 fn kind_of(k: usize) -> usize
     ensures { λ r. ⌜ (r ≡ kindNumber (kindOf k)) × (r < fieldLimit) ⌝ }
 {
-    if k <= graph::TARGET { k } else { graph::WAITING }
+    if k <= graph::TARGET {
+        k
+    } else {
+        graph::WAITING
+    }
 }
 
 fn cover_of(kind: usize, cover: usize) -> usize
@@ -89,7 +93,7 @@ fn final_field(vars: usize, nb: &[u8], n: usize, edges: usize, f: usize) -> usiz
     u
 }
 
-// What a field needs is there until it is written, or is what it becomes.
+// From the record itself: what a field is made of has not been put yet, or was put as it is.
 fn put_record(vars: usize, nb: &mut [u8], n: usize, edges: usize)
     requires { ⌜ (vars ≤ mostVariables) × (n ≤ fieldLimit) × (edges < fieldLimit) ⌝ }
     requires { ⌜ Whole vars (now nb) n ⌝ }
@@ -136,7 +140,14 @@ struct Edges {
 }
 
 // Of a node whose children start at `child`, by the row of what entries are in its state.
-fn put_edges(cs: &[u8], row: &[i64], commands: usize, child: usize, at: usize, nb: &mut [u8]) -> Edges
+fn put_edges(
+    cs: &[u8],
+    row: &[i64],
+    commands: usize,
+    child: usize,
+    at: usize,
+    nb: &mut [u8],
+) -> Edges
     requires { ⌜ (commands ≤ mostCommands) × (child + childrenIn (now cs) (now row) commands ≤ fieldLimit) ⌝ }
     requires { ⌜ at + edgesIn (now cs) (now row) commands ≤ length (now nb) ⌝ }
     ensures { λ r. ⌜ EdgesLaid (now (cs .entry)) (now (row .entry)) child at commands (r .count) (r .end) (now (nb .entry)) (now (nb .exit)) ⌝ }
@@ -184,10 +195,7 @@ fn node_edges(m: &[u8], nb: &mut [u8], n: usize, at: usize) -> Edges
     if folder::field(size, nb, n, KIND) == graph::EXPANDED {
         return expanded_edges(m, nb, n, at);
     }
-    Edges {
-        count: 0,
-        end: at,
-    }
+    Edges { count: 0, end: at }
 }
 
 // Its edges hang on what its record has now, so they come first.

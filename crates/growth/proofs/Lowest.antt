@@ -22,7 +22,8 @@ use Rattle.building.proofs.FirstLaws.{first-here, first-nowhere}
 use Rattle.held.specs.Held.{heldIn}
 use Rattle.wants.specs.Standing.{hintIn, Held}
 use Rattle.covers.specs.Covers.{isWaiting, canCoverIn, waitsIn, hintAt}
-use Rattle.growth.proofs.Counted.{kind-here, can-here}
+use Rattle.repairs.proofs.Linked.{kind-here}
+use Rattle.growth.proofs.Counted.{can-here}
 
 -- ---- kinds that wait
 kind-waits : (κ : Kind) (n : ℕ) → isWaiting κ ≡ true → waits κ n ≡ some n

@@ -29,7 +29,7 @@ use Rattle.nodes.proofs.Expanded.{children-is, edges-is}
 use Rattle.wants.specs.Standing.{Held}
 use Rattle.work.specs.declared.Work.{Work}
 use Rattle.work.specs.Working.{limitOf, graphIn, Lent}
-use Rattle.growth.proofs.Counted.{state-here}
+use Rattle.repairs.proofs.Linked.{state-here}
 
 module _ {m nb : List ℕ} {longest : ℕ} {w : Work} {n : ℕ} (H : Held m (w .nodes) nb) (L : Lent m longest w nb) (l : n < w .nodes)
     {row : List ℤ} (stated : StateRow (modelOf m .entries) (stateIn m nb n) row) where

@@ -2,49 +2,20 @@
 use expressions::MOST_EXPRESSIONS;
 use graph::MOST_NODES;
 use nodes::Move;
+use repairs::Marks;
 use work::Work;
 ghost use mathlib.Core.Path.{_≡_};
 ghost use Prim.Native.Nat.{_<_, _≤_};
 ghost use lib.ListN.{length};
 ghost use Rattle.model.specs.Model.{modelOf};
 ghost use Rattle.graph.specs.Limits.{mostNodes};
-ghost use Rattle.building.specs.First.{there, onward, first};
-ghost use Rattle.building.specs.Moves.{opening, growth, lowestWaiting, nextMove, repair};
+ghost use Rattle.building.specs.First.{onward};
+ghost use Rattle.building.specs.Moves.{opening, growth, lowestWaiting, nextMove};
 ghost use Rattle.building.specs.Working.{ParentRight, Settled, HintRight, MarkRight, NextRight};
-ghost use Rattle.held.specs.Held.{heldIn};
 ghost use Rattle.nodes.specs.Told.{told};
-ghost use Rattle.wants.specs.Standing.{parentIn, hintIn, rowIn, Held, Standing, Reread, nodeOf};
+ghost use Rattle.wants.specs.Standing.{parentIn, hintIn, rowIn, Held, Standing};
 ghost use Rattle.work.specs.Working.{limitOf, graphIn, Lent, Looked, ToMake};
 ghost use Rattle.growth.specs.Hints.{HintsSettled};
-
-// STUBS of crate repairs
-// How many nodes there are, which was opened last, and from where to where nodes may be marked.
-pub struct Marks {
-    pub nodes: usize,
-    pub fresh: usize,
-    pub low: usize,
-    pub high: usize,
-}
-
-pub fn is_move(mv: Move) -> bool
-    ensures { λ r. ⌜ r ≡ there (told mv) ⌝ }
-{
-    true
-}
-
-pub fn first_repair(m: &[u8], nb: &mut [u8], masks: &[u16], marks: &mut [u8], w: Marks) -> Move
-    requires { ⌜ Standing (now m) (now masks) (w .nodes) (now nb) ⌝ }
-    requires { ⌜ ParentRight (modelOf (now m)) (heldIn (now m) (w .nodes) (now nb)) (parentIn (now m) (now nb)) ⌝ }
-    requires { ⌜ Settled (modelOf (now m)) (heldIn (now m) (w .nodes) (now nb)) (w .fresh) ⌝ }
-    requires { ⌜ MarkRight (modelOf (now m)) (heldIn (now m) (w .nodes) (now nb)) (rowIn (now marks)) (w .low) (w .high) ⌝ }
-    requires { ⌜ (w .low ≤ w .high) × (w .high ≤ w .nodes) × (mostNodes ≤ length (now marks)) ⌝ }
-    ensures { λ r. ⌜ told r ≡ first (w .nodes) (repair (modelOf (now (m .entry))) (heldIn (now (m .entry)) (w .nodes) (now (nb .entry)))) ⌝ }
-    ensures { λ _. ⌜ Reread (now (m .entry)) (w .nodes) (now (nb .entry)) (now (nb .exit)) ⌝ }
-    ensures { λ r. ⌜ MarkRight (modelOf (now (m .entry))) (heldIn (now (m .entry)) (w .nodes) (now (nb .exit))) (rowIn (now (marks .exit))) (nodeOf (w .high) (told r)) (w .high) ⌝ }
-{
-    Move::Nothing
-}
-// END OF STUBS
 
 // The lowest waiting node n has no cover: it becomes a target, or it is expanded if there is room.
 fn opening_of(m: &[u8], nb: &[u8], longest: usize, w: Work, n: usize) -> Move
@@ -135,8 +106,8 @@ pub fn next_move(
     ensures { λ _. ⌜ Looked (now (m .entry)) w (now (nb .entry)) (now (nb .exit)) ⌝ }
     ensures { λ r. ⌜ ToMake (now (m .entry)) w (now (nb .exit)) (now (marks .exit)) (told r) ⌝ }
 {
-    let r = first_repair(m, nb, masks, marks, marks_of(w));
-    if is_move(r) {
+    let r = repairs::first_repair(m, nb, masks, marks, marks_of(w));
+    if repairs::is_move(r) {
         return r;
     }
     settle_hints(m, nb, w);

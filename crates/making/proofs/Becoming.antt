@@ -34,7 +34,8 @@ use Rattle.wants.specs.Standing.{readIn, parentIn, hintIn, rowIn}
 use Rattle.work.specs.Working.{limitOf, graphIn, Ready, Made, ToRepair, ToGrow}
 use Rattle.work.specs.declared.Work.{Work}
 use Rattle.making.proofs.Marks.{none-set}
-use Rattle.making.proofs.Moving.{stays-both, put-stays, working, Knows, valid, keeps, told-of, in-marks, made}
+use Rattle.making.proofs.Lowest.{lowest}
+use Rattle.making.proofs.Moving.{stays-both, put-stays, working, Knows, valid, keeps, told-of, in-field, in-marks, in-reaches, record-there, made}
 
 not-expanded : {κ k : Kind} → κ ≡ k → ifExpanded k 1 ≡ 0 → ifExpanded κ 1 ≡ 0
 not-expanded e h = ap (λ (κ : Kind). ifExpanded κ 1) e ∙ h
@@ -178,3 +179,78 @@ module _ {m masks : List ℕ} {longest : ℕ} {w : Work} {nb marks reaches : Lis
       (length-set marks n 1)
       refl
       (kind-stays m nb n 3 0 (w .nodes) (g .0))
+
+-- ---- n is covered by c
+module _ (m nb : List ℕ) (n c : ℕ) (some-variable : 0 < variableCount m) where
+  abbrev mid : List ℕ
+  mid = becomeIn (variableCount m) nb n 2 c
+
+  abbrev last : List ℕ
+  last = putIn (variableCount m) mid n (hintField m) c
+
+  hint-there : hintField m < fieldCount (variableCount m)
+  hint-there = omega arith
+
+  cover-others : (i f : ℕ) → f < fieldCount (variableCount m) → (f ≡ kindField → ⊥) → (f ≡ coverField → ⊥) → (f ≡ hintField m → ⊥) → nodeIn m last i f ≡ nodeIn m nb i f
+  cover-others i f l p q h = put-there (variableCount m) mid n (hintField m) c hint-there i f l (λ e. h) ∙ kind-others m nb n 2 c i f l p q h
+
+  cover-stays : (nodes : ℕ) → n < nodes → Stays 0 (nodeSize (variableCount m) * nodes) nb last
+  cover-stays nodes l = stays-both (kind-stays m nb n 2 c nodes l) (put-stays (variableCount m) mid n (hintField m) c hint-there nodes l)
+
+  module _ (valid-here : Valid m) (whole : Whole (variableCount m) nb n) (small : c < fieldLimit) where
+    cover-hint : hintIn m last ≡ put n c (hintIn m nb)
+    cover-hint = λ j i. at i (ℕ-discrete i n) j
+      where
+        at : (i : ℕ) → Dec (i ≡ n) → hintIn m last i ≡ put n c (hintIn m nb) i
+        at i (yes e) =
+            ap (hintIn m last) e ∙ put-here (variableCount m) mid n (hintField m) c hint-there (omega (arith, whole, become-long (variableCount m) nb n 2 c)) small
+            ∙ sym (put-at n c (hintIn m nb) i e)
+        at i (no d) =
+            put-there (variableCount m) mid n (hintField m) c hint-there i (hintField m) hint-there (λ e h. d e)
+            ∙ ap (λ (f : ℕ → ℕ). f i) (hint-same m nb n 2 c valid-here) ∙ sym (put-other n c (hintIn m nb) i d)
+
+  cover-held : (nodes : ℕ) → nodeSize (variableCount m) * nodes ≤ length nb → n < nodes → c < fieldLimit → heldIn m nodes last ≡ apply (modelOf m) (coverBy n c) (heldIn m nodes nb)
+  cover-held nodes long l small =
+      held-same m nodes mid last (λ i h f p a b. put-there (variableCount m) mid n (hintField m) c hint-there i f (omega arith) (λ e z. omega arith))
+      ∙ cover-made m nodes nb long n l c small
+
+-- The row of what is covered by whom.
+module _ (row : List ℕ) (c u : ℕ) (there : c < length row) where
+  row-at : rowIn (set row c u) c ≡ u
+  row-at = getD-set-same row c u 0 there
+
+  row-all : (Q : ℕ → Type 0) (x : ℕ) → (x ≡ c → Q u) → Q (rowIn row x) → Q (rowIn (set row c u) x)
+  row-all Q x h g = go (ℕ-discrete x c)
+    where
+      go : Dec (x ≡ c) → Q (rowIn (set row c u) x)
+      go (yes e) = subst Q (sym (ap (rowIn (set row c u)) e ∙ row-at)) (h e)
+      go (no d) = subst Q (sym (getD-set-other row c x u 0 d)) g
+
+module _ {m masks : List ℕ} {longest : ℕ} {w : Work} {nb marks reaches : List ℕ} {n c : ℕ} (R : Ready m masks longest w nb marks reaches (some (coverBy n c))) where
+  covered : Made m masks longest w nb (some (coverBy n c)) (working (w .nodes) (w .len) mostNodes n (n + 1) n) (putIn (variableCount m) (becomeIn (variableCount m) nb n 2 c) n (hintField m) c) (set marks n 1) (set reaches c (max (rowIn reaches c) (n + 1)))
+  covered =
+      let mv : Move = coverBy n c in
+      let g = told-of mv R in
+      let B : Building = graphIn m w nb in
+      let v = variables-some (valid mv R) in
+      let small : c < fieldLimit = in-field mv R (g .2) in
+      let row : c < length reaches = in-reaches mv R (g .2) in
+      let later : Kind.covered ≡ Kind.expanded → ⊥ = λ e. other-kind (λ z. omega arith) e in
+      kind-changed mv R n Kind.covered c refl (not-expanded (g .1) refl) refl (last m nb n c v) (cover-others m nb n c v) mostNodes n (n + 1) n
+      (cover-held m nb n c v (w .nodes) (R .standing .held .long) (g .0) small)
+      (all-settled (modelOf m) B (R .to-make .mended) mostNodes)
+      (rw (cover-hint m nb n c v (valid mv R) (record-there mv R (g .0) refl) small)
+      (hint-becoming (modelOf m) B n Kind.covered c later (λ e. absurd (false≢true e)) (λ l. absurd (omega arith))
+      (hint-put (modelOf m) B n c (omega (arith, g .2)) (lowest (modelOf m) (limitOf longest) B n c (R .to-make .mended) (sym (R .next))) (R .to-make .hints))))
+      (reach-becoming (modelOf m) B n Kind.covered c later (λ e. rw (row-at reaches c (max (rowIn reaches c) (n + 1)) row) (omega arith))
+      (λ x. row-all reaches c (max (rowIn reaches c) (n + 1)) row (λ (u : ℕ). rowIn reaches x ≤ u) x (λ e. rw e (omega arith)) (omega arith)) (R .covering))
+      (alone-marked R (R .to-make) (g .0) Kind.covered c later refl (λ i d. d))
+      (next-becoming (modelOf m) B n Kind.covered c later (omega arith) (λ e. omega arith) (R .to-make .next))
+      (omega arith, omega (arith, g .0), omega (arith, g .0), omega arith)
+      (λ x. row-all reaches c (max (rowIn reaches c) (n + 1)) row (λ (u : ℕ). u ≤ w .nodes) x (λ e. omega (arith, R .bounds .1 c, g .0)) (R .bounds .1 x))
+      (length-set marks n 1)
+      (length-set reaches c (max (rowIn reaches c) (n + 1)))
+      (cover-stays m nb n c v (w .nodes) (g .0))
+
+  pub covered-by : {u : ℕ} → u ≡ max (rowIn reaches c) (n + 1) → Made m masks longest w nb (some (coverBy n c)) (working (w .nodes) (w .len) mostNodes n (n + 1) n) (putIn (variableCount m) (becomeIn (variableCount m) nb n 2 c) n (hintField m) c) (set marks n 1) (set reaches c u)
+  covered-by e = rw e covered

@@ -1,3 +1,4 @@
 pub mod Marks
 pub mod Moving
+pub mod Lowest
 pub mod Becoming

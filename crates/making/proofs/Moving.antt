@@ -1,6 +1,6 @@
 -- The move that is next is made: what is left to show, and that the records then hold all that the builder's loop keeps.
 -- Assumes nothing.
-use Prim.Native.Nat.{ℕ, _+_, _*_, _<_, _≤_}
+use Prim.Native.Nat.{ℕ, _+_, _*_, _<_, _≤_, max}
 use mathlib.Core.Path.{_≡_, sym, ap, _∙_, subst, transport}
 use mathlib.Core.Option.{Option, some}
 use mathlib.Core.List.{List}
@@ -140,6 +140,9 @@ module _ {m masks : List ℕ} {longest : ℕ} {w : Work} {nb marks reaches : Lis
 
     pub in-reaches : n < length reaches
     in-reaches = omega (arith, there, keeps .few, R .rows)
+
+    pub reach-fits : (c : ℕ) {u x : ℕ} → u ≡ max x (n + 1) → x ≡ rowIn reaches c → u < fieldLimit
+    reach-fits c e q = omega (arith, there, keeps .few, R .bounds .1 c)
 
     pub record-there : {vars : ℕ} → vars ≡ variableCount m → Whole vars nb n
     record-there e = subst (λ (v : ℕ). Whole v nb n) (sym e) (whole-at (variableCount m) nb n (w .nodes) there (R .standing .held .long))

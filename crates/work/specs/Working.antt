@@ -70,7 +70,7 @@ pub record ToRepair (m : List ℕ) (w : Work) (nb marks : List ℕ) (n : ℕ) : 
   pub hints : HintRight (modelOf m) (graphIn m w nb) (hintIn m nb) (w .fresh)
   pub marked : MarkRight (modelOf m) (graphIn m w nb) (rowIn marks) n (w .high)
 
--- No rule is broken: n is the lowest node that waits, if one does, and all hints hold.
+-- No rule is broken, no node below n waits, and all hints hold.
 pub record ToGrow (m : List ℕ) (w : Work) (nb marks : List ℕ) (n : ℕ) : Type 0 where
   pub mended : Mended (modelOf m) (graphIn m w nb)
   pub hints : HintRight (modelOf m) (graphIn m w nb) (hintIn m nb) (w .nodes)

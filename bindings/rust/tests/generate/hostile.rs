@@ -289,19 +289,24 @@ pub fn chain_of_one_set() -> ModelData {
 
 /// A chain in which whatever is asked hangs on a set of its own of 12 two-valued variables.
 pub fn chain_of_many_sets() -> ModelData {
+    chain_of_sets(12, 9, 32, 3).expect("room is counted")
+}
+
+pub fn chain_of_sets(others: usize, taken: usize, entries: usize, step: usize) -> Option<ModelData> {
     let mut maker = Maker::new(&[2; 15]);
-    let (others, taken, entries) = (12, 9, 20);
-    let pieces: Vec<Piece> = (1..=others)
-        .map(|v| {
-            let set: Vec<usize> = [v].into_iter().chain(others + 1..16).collect();
-            maker.piece(&set, entries, taken as u32 / 2 + 1)
-        })
-        .collect();
+    let mut pieces = Vec::new();
+    for v in 1..=others {
+        let set: Vec<usize> = [v].into_iter().chain(others + 1..16).collect();
+        if maker.left() < entries + CHAIN_SPARE + 20 { return None }
+        pieces.push(maker.piece(&set, entries, taken as u32 / 2 + 1));
+    }
     let mut made = HashMap::new();
-    let choices = choices(&(0..others).collect::<Vec<_>>(), taken).into_iter().step_by(3);
-    let numbers: Vec<u16> = choices
-        .take(CHAIN_ASKED)
-        .map(|choice| maker.join(&pieces, &choice, &mut made).expect("room is counted"))
-        .collect();
-    maker.finish_chain(&numbers)
+    let choices = choices(&(0..others).collect::<Vec<_>>(), taken);
+    if choices.len() < CHAIN_ASKED * step { return None }
+    let mut numbers = Vec::new();
+    for choice in choices.into_iter().step_by(step).take(CHAIN_ASKED) {
+        if maker.left() < CHAIN_SPARE + 6 { return None }
+        numbers.push(maker.join(&pieces, &choice, &mut made)?);
+    }
+    Some(maker.finish_chain(&numbers))
 }

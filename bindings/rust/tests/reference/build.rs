@@ -41,20 +41,20 @@ impl Node {
 }
 
 impl Model {
-    /// The bytes of a node.
-    fn record(&self) -> usize {
-        12 + 4 * self.variables.len()
+    /// The length of a graph of so many nodes, whose edges have so many fields.
+    pub(super) fn length(&self, nodes: usize, fields: usize) -> usize {
+        TABLE + nodes * (12 + 4 * self.variables.len()) + 2 * fields
     }
 
     /// Row 35, after the model's: a slice of this length, and so many rounds.
     pub(super) fn may_build(&self, rounds: usize, room: usize) -> Checked<()> {
-        ensure(room >= TABLE + self.record(), 35, 0)?;
+        ensure(room >= self.length(1, 0), 35, 0)?;
         ensure(rounds <= ROUNDS, 35, 1)
     }
 
     /// What an expansion of a node gives, by the readings in its concrete label: enabled
     /// commands ascending, branches in order.
-    pub(super) fn expansion(&self, concrete: &[Reading]) -> Expansion {
+    fn expansion(&self, concrete: &[Reading]) -> Expansion {
         let number = |&entry: &usize| match concrete[entry] {
             // In the variable's range, by row 10.
             Reading::Number(number) => number as i16,
@@ -77,21 +77,21 @@ fn put_contents(bytes: &mut Vec<u8>, start: usize, length: usize) {
 
 impl Graph {
     /// One waiting node, with the initial state.
-    pub(super) fn of_root(model: &Model) -> Graph {
+    fn of_root(model: &Model) -> Graph {
         let initial = model.variables.iter().map(|variable| variable.initial).collect();
         Graph { nodes: vec![Node::waiting(initial)], edges: Vec::new(), successors: Vec::new() }
     }
 
     /// How many nodes the graph would have with an expansion more, and which length.
-    pub(super) fn size_with(&self, model: &Model, expansion: &Expansion) -> (usize, usize) {
+    fn size_with(&self, model: &Model, expansion: &Expansion) -> (usize, usize) {
         let branches: usize = expansion.iter().map(|(_, states)| states.len()).sum();
         let nodes = self.nodes.len() + branches;
         let fields = self.edges.len() + expansion.len() + self.successors.len() + branches;
-        (nodes, TABLE + model.record() * nodes + 2 * fields)
+        (nodes, model.length(nodes, fields))
     }
 
     /// Expands a node: a new one for each branch, in edge order.
-    pub(super) fn expand(&mut self, place: usize, expansion: Expansion) {
+    fn expand(&mut self, place: usize, expansion: Expansion) {
         let from = self.edges.len();
         for (command, states) in expansion {
             let first = self.successors.len();

@@ -1,5 +1,3 @@
-use mathlib.Core.Path.{_∙_}
-use native.Mathlib.Omega.{arith}
 use Rattle.wants.proofs.Here.{field-read}
 use Rattle.finish.proofs.OwnLaws.{few-commands, children-fit, edges-fit, own-laid}
 use borrow.Author.Needs.{needs}

@@ -1,4 +1,3 @@
-use native.Mathlib.Omega.{arith}
 use Rattle.finish.proofs.OwnLaws.{ended, record-room}
 use borrow.Author.Needs.{needs}
 use Rattle.finish.proofs.finish_node.Statement.{statement}

@@ -1,7 +1,6 @@
 use Prim.Native.Nat.{_+_, _-_, _≤_}
 use mathlib.Core.Path.{refl}
 use native.Mathlib.Omega.{arith}
-use lib.ListN.{length}
 use Rattle.folder.specs.Tab.{tab}
 use Rattle.finish.specs.Laid.{Laid}
 use Rattle.finish.proofs.LaidLaws.{laid-start, laid-more, laid-over}

@@ -6,7 +6,7 @@ use Rattle.whole.specs.Order.{eqZ}
 use Rattle.folder.specs.Contents.{countOf}
 use Rattle.folder.proofs.Signed.{back}
 use Rattle.model.proofs.Limits.{limits}
-use Rattle.growth.proofs.Counted.{node-here}
+use Rattle.repairs.proofs.Linked.{node-here}
 use Rattle.growth.proofs.Opening.{opening-reach, opening-many, opening-expand, opening-long}
 use borrow.Author.Needs.{needs}
 use Rattle.growth.proofs.opening_of.Statement.{statement}

@@ -1,0 +1,122 @@
+-- The loop that makes the moves: it goes on from what the last move left, the measure falls, and it ends at the graph that is
+-- built.
+-- Assumes nothing.
+use Prim.Native.Nat.{ℕ, _+_, _*_, _<_, _≤_}
+use mathlib.Core.Path.{_≡_, refl, sym, ap, _∙_, subst}
+use mathlib.Core.Bool.{true, false, false≢true}
+use mathlib.Core.List.{List}
+use mathlib.Core.Option.{Option, none, some}
+use native.Mathlib.Nat.{mul-le-mul-left}
+use native.Mathlib.Omega.{arith}
+use lib.ListN.{length}
+use Rattle.model.specs.Layout.{variableCount}
+use Rattle.model.specs.Model.{Model, modelOf}
+use Rattle.graph.specs.Limits.{mostNodes}
+use Rattle.graph.specs.Simulation.{nodeSize}
+use Rattle.building.specs.First.{there}
+use Rattle.building.specs.Building.{Building}
+use Rattle.building.specs.Length.{graphLength}
+use Rattle.building.specs.Moves.{Move, nextMove, moved}
+use Rattle.building.specs.Kept.{Kept}
+use Rattle.building.specs.Measure.{measure}
+use Rattle.building.specs.Built.{Reached, built}
+use Rattle.building.specs.Working.{ParentRight, Settled, HintRight, ReachRight, MarkRight, NextRight}
+use Rattle.building.proofs.Aptness.{next-apt}
+use Rattle.building.proofs.Falling.{falls}
+use Rattle.building.proofs.Ending.{reached-built}
+use Rattle.put.specs.Put.{Stays}
+use Rattle.held.specs.Held.{heldIn}
+use Rattle.wants.specs.Standing.{parentIn, hintIn, rowIn}
+use Rattle.work.specs.declared.Work.{Work}
+use Rattle.work.specs.Working.{limitOf, graphIn, Lent, Known, Working, Looked, ToMake, Ready, Made, Grown}
+
+-- What the loop holds: a move that can be made, or none, and what of the bytes stays.
+pub record Growing (m masks : List ℕ) (longest : ℕ) (nb₀ marks₀ reaches₀ : List ℕ) (w : Work) (nb marks reaches : List ℕ) (mv : Option Move) : Type 0 where
+  pub ready : Ready m masks longest w nb marks reaches mv
+  pub stays : Stays 0 (nodeSize (variableCount m) * w .nodes) nb₀ nb
+  pub marks-long : length marks ≡ length marks₀
+  pub reaches-long : length reaches ≡ length reaches₀
+
+-- ---- a look at the next move leaves it ready
+module _ {m masks : List ℕ} {longest : ℕ} {w : Work} {nb marks reaches : List ℕ} (W : Working m masks longest w nb marks reaches)
+    {new : List ℕ} (marks′ : List ℕ) {mv : Option Move} (next : mv ≡ nextMove (modelOf m) (limitOf longest) (graphIn m w nb)) (looked : Looked m w nb new)
+    (to-make : ToMake m w new marks′ mv) (long : length marks′ ≡ length marks) where
+  abbrev M : Model
+  M = modelOf m
+
+  along : (P : Building → Type 0) → P (graphIn m w nb) → P (graphIn m w new)
+  along P h = subst P (sym (looked .held)) h
+
+  pub ready-after : Ready m masks longest w new marks′ reaches mv
+  ready-after = record {
+    standing = record {
+      held = record {
+        model = W .standing .held .model;
+        kept = along (λ (B : Building). Kept M mostNodes B) (W .standing .held .kept);
+        long = omega (arith, W .standing .held .long, looked .stays .long);
+      };
+      masked = W .standing .masked;
+      read = looked .read;
+    };
+    reached = along (λ (B : Building). Reached M (limitOf longest) B) (W .reached);
+    lent = record {
+      counted = W .lent .counted ∙ ap (graphLength M) (sym (looked .held));
+      short = W .lent .short;
+      lent = omega (arith, W .lent .lent, looked .stays .long);
+      limit = W .lent .limit;
+    };
+    next = next ∙ ap (nextMove M (limitOf longest)) (sym (looked .held));
+    parents = subst (λ (f : ℕ → ℕ). ParentRight M (graphIn m w new) f) (λ i x. sym (looked .parents x) i) (along (λ (B : Building). ParentRight M B (parentIn m nb)) (W .known .parents));
+    settled = along (λ (B : Building). Settled M B (w .fresh)) (W .known .settled);
+    covering = along (λ (B : Building). ReachRight M B (rowIn reaches)) (W .known .covering);
+    waits = along (λ (B : Building). NextRight M B (w .next)) (W .known .next);
+    window = (W .known .window .1, W .known .window .2, W .known .fresh);
+    bounds = (λ i l. omega (arith, looked .parents i, W .known .bounds .0 i l), W .known .bounds .1);
+    rows = (omega (arith, W .known .rows .0), W .known .rows .1);
+    to-make = to-make;
+  }
+
+-- ---- bytes
+stays-join : {a b : ℕ} {old mid new : List ℕ} → a ≤ b → Stays 0 a old mid → Stays 0 b mid new → Stays 0 b old new
+stays-join l s t = record { long = t .long ∙ s .long; below = λ j h. absurd (omega arith); past = λ j h. t .past j h ∙ s .past j (omega arith) }
+
+pub grow-start : {m masks : List ℕ} {longest : ℕ} {w : Work} {nb marks reaches : List ℕ} → Working m masks longest w nb marks reaches → {new : List ℕ} (marks′ : List ℕ) {mv : Option Move}
+    → mv ≡ nextMove (modelOf m) (limitOf longest) (graphIn m w nb) → Looked m w nb new → ToMake m w new marks′ mv → length marks′ ≡ length marks
+    → Growing m masks longest nb marks reaches w new marks′ reaches mv
+grow-start W marks′ next looked to-make long = record { ready = ready-after W marks′ next looked to-make long; stays = looked .stays; marks-long = long; reaches-long = refl }
+
+module _ {m masks : List ℕ} {longest : ℕ} {nb₀ marks₀ reaches₀ : List ℕ} {w : Work} {nb marks reaches : List ℕ} {mv : Option Move} (G : Growing m masks longest nb₀ marks₀ reaches₀ w nb marks reaches mv) where
+  module _ {w′ : Work} {nb′ marks′ reaches′ : List ℕ} (made : Made m masks longest w nb mv w′ nb′ marks′ reaches′) (marks-same : length marks′ ≡ length marks) (reaches-same : length reaches′ ≡ length reaches)
+      {new : List ℕ} (marks″ : List ℕ) {mv′ : Option Move} (next : mv′ ≡ nextMove (modelOf m) (limitOf longest) (graphIn m w′ nb′)) (looked : Looked m w′ nb′ new) (to-make : ToMake m w′ new marks″ mv′) (long : length marks″ ≡ length marks′) where
+    pub grow-next : Growing m masks longest nb₀ marks₀ reaches₀ w′ new marks″ reaches′ mv′
+    grow-next = record {
+      ready = ready-after (made .working) marks″ next looked to-make long;
+      stays = stays-join (mul-le-mul-left (nodeSize (variableCount m)) (made .grows)) (G .stays) (stays-join (omega arith) (made .stays) (looked .stays));
+      marks-long = long ∙ marks-same ∙ G .marks-long;
+      reaches-long = reaches-same ∙ G .reaches-long;
+    }
+
+    -- The measure falls.
+    pub grow-less : there mv ≡ true → measure (modelOf m) (limitOf longest) (graphIn m w′ new) < measure (modelOf m) (limitOf longest) (graphIn m w nb)
+    grow-less h = subst (λ (B : Building). measure (modelOf m) (limitOf longest) B < measure (modelOf m) (limitOf longest) (graphIn m w nb)) (sym (looked .held ∙ made .is)) (go mv refl h)
+      where
+        go : (o : Option Move) → mv ≡ o → there o ≡ true → measure (modelOf m) (limitOf longest) (moved (modelOf m) mv (graphIn m w nb)) < measure (modelOf m) (limitOf longest) (graphIn m w nb)
+        go none e t = absurd (false≢true t)
+        go (some a) e t =
+            let S = G .ready .standing .held in
+            rw e (falls (modelOf m) (limitOf longest) (graphIn m w nb) (S .kept) a (next-apt (modelOf m) (limitOf longest) (S .model .model) (graphIn m w nb) (S .kept) a (sym (sym e ∙ G .ready .next))))
+
+  -- Where there is none, it is built.
+  module _ (over : there mv ≡ false) where
+    none-left : mv ≡ none
+    none-left = go mv refl over
+      where
+        go : (o : Option Move) → mv ≡ o → there o ≡ false → mv ≡ none
+        go none e t = e
+        go (some a) e t = absurd (false≢true (sym t))
+
+    pub grown-built : heldIn m (w .nodes) nb ≡ built (modelOf m) (limitOf longest)
+    grown-built = reached-built (modelOf m) (limitOf longest) (G .ready .standing .held .model .model) (omega arith) (G .ready .reached) (sym (G .ready .next) ∙ none-left)
+
+    pub grown : Grown m longest (w .nodes) (w .len) nb
+    grown = record { held = G .ready .standing .held; counted = G .ready .lent .counted; short = G .ready .lent .short; lent = G .ready .lent .lent; limit = G .ready .lent .limit }
