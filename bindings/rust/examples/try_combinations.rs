@@ -1,38 +1,59 @@
-// scratch
+// scratch: naive against fast on random models
 #[path = "../tests/generate/mod.rs"]
 mod generate;
 #[path = "../tests/reference/mod.rs"]
 mod reference;
-use std::time::Instant;
+use generate::random::Random;
+use reference::build::{build_by_moves, Move};
+use std::time::{Duration, Instant};
+use std::collections::{HashMap, HashSet};
 fn main() {
-    if std::env::args().nth(2).is_some() { return tune() }
-    let nodes: usize = std::env::args().nth(1).unwrap().parse().unwrap();
-    for f in generate::filling::combinations() {
-        let bytes = f.model.bytes();
-        laguipy::model_check(&bytes).expect(f.name);
-        let room = 16 + nodes * 76 + 4 * nodes;
+    let count: u64 = std::env::args().nth(1).unwrap().parse().unwrap();
+    let nodes: usize = std::env::args().nth(2).unwrap().parse().unwrap();
+    let (mut gen, mut naive, mut fast) = (Duration::ZERO, Duration::ZERO, Duration::ZERO);
+    let mut tally: HashMap<String, usize> = HashMap::new();
+    let mut distinct = HashSet::new();
+    let mut slowest = (Duration::ZERO, 0);
+    for seed in 0..count {
         let t = Instant::now();
-        let g = reference::build_fast::build(&bytes, 0, room).unwrap();
-        let t0 = t.elapsed();
+        let m = generate::building::model(&mut Random::new(seed));
+        let bytes = m.bytes();
+        gen += t.elapsed();
+        laguipy::model_check(&bytes).expect("model");
+        distinct.insert(bytes.clone());
+        let room = 16 + nodes * (12 + 4 * m.variables.len() + 4);
         let t = Instant::now();
-        let s = reference::graph_check(&bytes, &g);
-        let t1 = t.elapsed();
-        println!("{:<42} {:>6} entries build {:>10.3?} check {:>10.3?} len {} {:?}", f.name, f.model.entries.len(), t0, t1, g.len(), s);
-    }
-}
-
-fn tune() {
-    for (others, taken) in [(12, 9), (13, 10), (14, 11), (11, 8), (10, 7), (9, 6)] {
-        for step in [1, 2, 3, 5] {
-            for entries in (12..60).step_by(4) {
-                let made = std::panic::catch_unwind(|| generate::hostile::chain_of_sets(others, taken, entries, step));
-                let Ok(Some(m)) = made else { continue };
-                let bytes = m.bytes();
-                laguipy::model_check(&bytes).expect("model");
-                let room = 16 + 5 * 76 + 4 * 5;
-                let best = (0..3).map(|_| { let t = Instant::now(); reference::build_fast::build(&bytes, 0, room).unwrap(); t.elapsed() }).min().unwrap();
-                println!("{others} {taken} step {step} entries {entries} of {}: {:.3?} a node", m.entries.len(), best / 5);
-            }
+        let (a, moves) = build_by_moves(&bytes, 3, room).unwrap();
+        let e = t.elapsed();
+        if e > slowest.0 { slowest = (e, seed) }
+        naive += e;
+        let t = Instant::now();
+        let b = reference::build_fast::build(&bytes, 3, room).unwrap();
+        fast += t.elapsed();
+        if a != b { println!("DIFFER seed {seed}"); }
+        let s = laguipy::graph_check(&bytes, &a).unwrap_or_else(|e| panic!("seed {seed}: {e:?}"));
+        let mut here: HashSet<String> = HashSet::new();
+        let mut dropped = HashSet::new();
+        for m in &moves {
+            let name = match m {
+                Move::Covered { node, cover } => {
+                    if dropped.contains(node) { here.insert("covered again".into()); if cover > node { here.insert("covered again by higher".into()); } }
+                    "covered".into()
+                }
+                Move::Target { .. } => "target".into(),
+                Move::Expanded { node, .. } => { if dropped.contains(node) { here.insert("dropped and expanded".into()); } "expanded".to_string() },
+                Move::Tracked { rule, .. } => format!("tracked {rule}"),
+                Move::Dropped { node } => { if dropped.contains(node) { here.insert("dropped again".into()); } dropped.insert(*node); "dropped".into() }
+                Move::Ended { .. } => "ended".into(),
+            };
+            here.insert(name);
         }
+        if s.expanded == 1 && s.waiting + s.covered + s.target == 0 { here.insert("one node".into()); }
+        for h in here { *tally.entry(h).or_default() += 1; }
+        *tally.entry("nodes".into()).or_default() += s.expanded + s.waiting + s.covered + s.target;
+        *tally.entry("moves".into()).or_default() += moves.len();
     }
+    println!("distinct {} gen {gen:.3?} naive {naive:.3?} fast {fast:.3?} slowest {slowest:?}", distinct.len());
+    let mut t: Vec<_> = tally.into_iter().collect(); t.sort();
+    for (k, v) in t { println!("{v:8} {k}"); }
 }

@@ -1,6 +1,6 @@
 -- The call that builds, accepted: its bytes pass the graph check, with demand 3, and fit the slice.
 -- Assumes nothing.
-use Prim.Native.Nat.{ℕ, _≤_, min}
+use Prim.Native.Nat.{ℕ, _≤_}
 use mathlib.Core.Path.{_≡_}
 use mathlib.Core.List.{List}
 use native.Mathlib.Nat.{le-min, le-trans, min-le-left, min-le-right}
@@ -12,7 +12,7 @@ use Rattle.model.specs.Table.{modelOutcome}
 use Rattle.model.specs.Valid as Models
 use Rattle.model.proofs.Decided as Checked
 use Rattle.model.proofs.Limits.{limits}
-use Rattle.graph.specs.Limits.{mostBytes, mostNodes}
+use Rattle.graph.specs.Limits.{mostBytes}
 use Rattle.graph.specs.Table.{graphOutcome}
 use Rattle.written.specs.Demand.{BuiltDemand}
 use Rattle.written.proofs.Accepted.{every-graph-built-is-accepted, built-no-longer}

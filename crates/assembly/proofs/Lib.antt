@@ -1,7 +1,11 @@
+pub mod Parts
 pub mod BytesLaws
 pub mod Putting
 pub mod Contents
 pub mod RoundLaws
+pub mod Bodies
 pub mod CallLaws
 pub mod Decided
 pub mod Built
+pub mod Certain
+pub mod Filled

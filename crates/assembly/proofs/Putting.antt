@@ -12,7 +12,7 @@ use lib.Seq.{set-append-left}
 use Rattle.folder.specs.Fields.{fieldLimit, field4Limit}
 use Rattle.model.specs.Model.{Model}
 use Rattle.model.specs.Pedal.{fields}
-use Rattle.graph.specs.Simulation.{Simulation, nodeSize}
+use Rattle.graph.specs.Simulation.{nodeSize}
 use Rattle.graph.specs.Figures.{over}
 use Rattle.building.specs.First.{put}
 use Rattle.building.specs.Building.{Building, asSimulation}

@@ -4,7 +4,7 @@ use folder::Refusal;
 use graph::MOST_NODES;
 ghost use mathlib.Core.Path.{_≡_};
 ghost use mathlib.Core.List.{List, _++_};
-ghost use Prim.Native.Nat.{ℕ, _+_, _*_, _<_, _≤_, min};
+ghost use Prim.Native.Nat.{ℕ, _+_, _*_, _<_, _≤_};
 ghost use lib.ListN.{length, getD, drop};
 ghost use Rattle.folder.specs.Fields.{field4Limit};
 ghost use Rattle.folder.specs.Table.{outcome};
@@ -23,14 +23,15 @@ ghost use Rattle.held.specs.Held.{heldIn};
 ghost use Rattle.wants.specs.Standing.{Held};
 ghost use Rattle.work.specs.Working.{limitOf, Grown};
 ghost use Rattle.assembly.specs.Stub.{bodiesOf};
-ghost use Rattle.assembly.specs.Stages.{contentsBy, bodiesBy};
-ghost use Rattle.assembly.specs.Build.{limitFor, BuildRight, buildRows, bytesFor};
+ghost use Rattle.assembly.specs.Stages.{contentsBy, bodiesBy, Bodied};
+ghost use Rattle.assembly.specs.Build.{oneNode, limitFor, BuildRight, buildRows, bytesFor};
 
 // STUBS of crates builder, finish
 pub struct Size {
     pub nodes: usize,
     pub len: usize,
 }
+
 fn build(m: &[u8], longest: usize, nb: &mut [u8]) -> Size
     requires { ⌜ Valid (now m) ⌝ }
     requires { ⌜ (leastBytes + nodeSize (variableCount (now m)) ≤ longest) × (longest ≤ leastBytes + length (now nb)) × (longest ≤ mostBytes) ⌝ }
@@ -40,12 +41,12 @@ fn build(m: &[u8], longest: usize, nb: &mut [u8]) -> Size
 {
     Size { nodes: 0, len: 0 }
 }
+
 fn finish(m: &[u8], nodes: usize, nb: &mut [u8])
     requires { ⌜ Held (now m) nodes (now nb) ⌝ }
     requires { ⌜ nodeSize (variableCount (now m)) * nodes + edgesBefore (modelOf (now m)) (heldIn (now m) nodes (now nb)) nodes ≤ length (now nb) ⌝ }
     ensures { λ _. ⌜ now (nb .exit) ≡ over (bodiesOf (modelOf (now (m .entry))) (heldIn (now (m .entry)) nodes (now (nb .entry)))) (now (nb .entry)) ⌝ }
-{
-}
+{}
 // END OF STUBS
 
 // The length of a graph, or why there is none.
@@ -105,23 +106,27 @@ fn put_values(vars: usize, nodes: usize, row: &[u32], nb: &mut [u8])
     }
 }
 
-fn smaller(a: usize, b: usize) -> usize
-    ensures { λ r. ⌜ r ≡ min a b ⌝ }
+// The two bodies of the graph with all values at S: the moves, then the edges.
+fn build_bodies(m: &[u8], longest: usize, nb: &mut [u8]) -> Size
+    requires { ⌜ Valid (now m) ⌝ }
+    requires { ⌜ (leastBytes + nodeSize (variableCount (now m)) ≤ longest) × (longest ≤ leastBytes + length (now nb)) × (longest ≤ mostBytes) ⌝ }
+    ensures { λ r. ⌜ Bodied (now (m .entry)) longest (r .nodes) (r .len) (now (nb .entry)) (now (nb .exit)) ⌝ }
 {
-    if a < b { a } else { b }
+    let size = build(m, longest, nb);
+    finish(m, size.nodes, nb);
+    size
 }
 
-// The graph with all values at S: the moves, the edges, the contents.
+// The graph with all values at S: the contents, then the bodies.
 fn build_certain(m: &[u8], out: &mut [u8]) -> Size
     requires { ⌜ Valid (now m) ⌝ }
-    requires { ⌜ BuildRight (modelOf (now m)) 0 (now out) ⌝ }
+    requires { ⌜ oneNode (modelOf (now m)) ≤ length (now out) ⌝ }
     ensures { λ r. ⌜ r .nodes ≡ built (modelOf (now (m .entry))) (limitFor (now (out .entry))) .nodes ⌝ }
     ensures { λ r. ⌜ r .len ≡ length (bytesFor (modelOf (now (m .entry))) 0 (now (out .entry))) ⌝ }
     ensures { λ _. ⌜ now (out .exit) ≡ over (bytesFor (modelOf (now (m .entry))) 0 (now (out .entry))) (now (out .entry)) ⌝ }
 {
-    let longest = smaller(out.len(), MOST_BYTES);
-    let size = build(m, longest, &mut out[LEAST_BYTES..]);
-    finish(m, size.nodes, &mut out[LEAST_BYTES..]);
+    let longest = work::smaller(out.len(), MOST_BYTES);
+    let size = build_bodies(m, longest, &mut out[LEAST_BYTES..]);
     let nodes = graph::node_size(graph::variable_count(m)) * size.nodes;
     put_contents(out, nodes, size.len - LEAST_BYTES - nodes);
     size

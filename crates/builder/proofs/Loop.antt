@@ -25,17 +25,19 @@ use Rattle.building.proofs.Aptness.{next-apt}
 use Rattle.building.proofs.Falling.{falls}
 use Rattle.building.proofs.Ending.{reached-built}
 use Rattle.put.specs.Put.{Stays}
+use Rattle.put.proofs.PutLaws.{stays-none}
 use Rattle.held.specs.Held.{heldIn}
 use Rattle.wants.specs.Standing.{parentIn, hintIn, rowIn}
 use Rattle.work.specs.declared.Work.{Work}
 use Rattle.work.specs.Working.{limitOf, graphIn, Lent, Known, Working, Looked, ToMake, Ready, Made, Grown}
 
 -- What the loop holds: a move that can be made, or none, and what of the bytes stays.
-pub record Growing (m masks : List ℕ) (longest : ℕ) (nb₀ marks₀ reaches₀ : List ℕ) (w : Work) (nb marks reaches : List ℕ) (mv : Option Move) : Type 0 where
+pub record Growing (m masks : List ℕ) (longest least : ℕ) (nb₀ marks₀ reaches₀ : List ℕ) (w : Work) (nb marks reaches : List ℕ) (mv : Option Move) : Type 0 where
   pub ready : Ready m masks longest w nb marks reaches mv
   pub stays : Stays 0 (nodeSize (variableCount m) * w .nodes) nb₀ nb
   pub marks-long : length marks ≡ length marks₀
   pub reaches-long : length reaches ≡ length reaches₀
+  pub grows : least ≤ w .nodes
 
 -- ---- a look at the next move leaves it ready
 module _ {m masks : List ℕ} {longest : ℕ} {w : Work} {nb marks reaches : List ℕ} (W : Working m masks longest w nb marks reaches)
@@ -82,18 +84,25 @@ stays-join l s t = record { long = t .long ∙ s .long; below = λ j h. absurd (
 
 pub grow-start : {m masks : List ℕ} {longest : ℕ} {w : Work} {nb marks reaches : List ℕ} → Working m masks longest w nb marks reaches → {new : List ℕ} (marks′ : List ℕ) {mv : Option Move}
     → mv ≡ nextMove (modelOf m) (limitOf longest) (graphIn m w nb) → Looked m w nb new → ToMake m w new marks′ mv → length marks′ ≡ length marks
-    → Growing m masks longest nb marks reaches w new marks′ reaches mv
-grow-start W marks′ next looked to-make long = record { ready = ready-after W marks′ next looked to-make long; stays = looked .stays; marks-long = long; reaches-long = refl }
+    → Growing m masks longest (w .nodes) new marks′ reaches w new marks′ reaches mv
+grow-start {w = w} W {new} marks′ next looked to-make long = record {
+  ready = ready-after W marks′ next looked to-make long;
+  stays = stays-none 0 _ new;
+  marks-long = refl;
+  reaches-long = refl;
+  grows = omega arith;
+}
 
-module _ {m masks : List ℕ} {longest : ℕ} {nb₀ marks₀ reaches₀ : List ℕ} {w : Work} {nb marks reaches : List ℕ} {mv : Option Move} (G : Growing m masks longest nb₀ marks₀ reaches₀ w nb marks reaches mv) where
+module _ {m masks : List ℕ} {longest least : ℕ} {nb₀ marks₀ reaches₀ : List ℕ} {w : Work} {nb marks reaches : List ℕ} {mv : Option Move} (G : Growing m masks longest least nb₀ marks₀ reaches₀ w nb marks reaches mv) where
   module _ {w′ : Work} {nb′ marks′ reaches′ : List ℕ} (made : Made m masks longest w nb mv w′ nb′ marks′ reaches′) (marks-same : length marks′ ≡ length marks) (reaches-same : length reaches′ ≡ length reaches)
       {new : List ℕ} (marks″ : List ℕ) {mv′ : Option Move} (next : mv′ ≡ nextMove (modelOf m) (limitOf longest) (graphIn m w′ nb′)) (looked : Looked m w′ nb′ new) (to-make : ToMake m w′ new marks″ mv′) (long : length marks″ ≡ length marks′) where
-    pub grow-next : Growing m masks longest nb₀ marks₀ reaches₀ w′ new marks″ reaches′ mv′
+    pub grow-next : Growing m masks longest least nb₀ marks₀ reaches₀ w′ new marks″ reaches′ mv′
     grow-next = record {
       ready = ready-after (made .working) marks″ next looked to-make long;
       stays = stays-join (mul-le-mul-left (nodeSize (variableCount m)) (made .grows)) (G .stays) (stays-join (omega arith) (made .stays) (looked .stays));
       marks-long = long ∙ marks-same ∙ G .marks-long;
       reaches-long = reaches-same ∙ G .reaches-long;
+      grows = omega (arith, G .grows, made .grows);
     }
 
     -- The measure falls.
@@ -105,6 +114,10 @@ module _ {m masks : List ℕ} {longest : ℕ} {nb₀ marks₀ reaches₀ : List 
         go (some a) e t =
             let S = G .ready .standing .held in
             rw e (falls (modelOf m) (limitOf longest) (graphIn m w nb) (S .kept) a (next-apt (modelOf m) (limitOf longest) (S .model .model) (graphIn m w nb) (S .kept) a (sym (sym e ∙ G .ready .next))))
+
+  -- From the first look on.
+  pub grown-stays : {old : List ℕ} → Stays 0 (nodeSize (variableCount m) * least) old nb₀ → Stays 0 (nodeSize (variableCount m) * w .nodes) old nb
+  grown-stays s = stays-join (mul-le-mul-left (nodeSize (variableCount m)) (G .grows)) s (G .stays)
 
   -- Where there is none, it is built.
   module _ (over : there mv ≡ false) where

@@ -29,7 +29,8 @@ use Rattle.written.specs.Bytes.{chain, nodeFields, edgesFields, nodeBody, edgeB
 use Rattle.written.proofs.FieldLaws.{chain-wide}
 use Rattle.written.proofs.ReadBack.{bytes-long}
 use Rattle.written.proofs.LengthLaws.{edges-place, edges-long}
-use Rattle.finish.specs.Finish.{certain, bodiesOf, over}
+use Rattle.graph.specs.Figures.{over}
+use Rattle.finish.specs.Finish.{certain, bodiesOf}
 use Rattle.finish.specs.Laid.{Stand, Laid, kindIn, ownEdges, ownRecord, Fits, Ended}
 use Rattle.finish.proofs.LaidLaws.{stand-none, stand-then, stand-below, stand-past}
 use Rattle.finish.proofs.EdgeLaws.{chain-more}

@@ -2,7 +2,6 @@
 -- Assumes nothing.
 use Prim.Native.Nat.{ℕ}
 use mathlib.Core.List.{List, _++_}
-use lib.ListN.{length, drop}
 use Rattle.model.specs.Model.{Model}
 use Rattle.model.specs.Pedal.{fields}
 use Rattle.graph.specs.Limits.{units}
@@ -15,7 +14,3 @@ certain M B = asSimulation M B (λ n. units)
 
 unfoldable pub bodiesOf : Model → Building → List ℕ
 bodiesOf M B = fields (nodeBody M (certain M B)) ++ fields (edgeBody M (certain M B))
-
--- A list written over the front of another.
-abbrev pub over : List ℕ → List ℕ → List ℕ
-over a b = a ++ drop (length a) b

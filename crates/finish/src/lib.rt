@@ -17,13 +17,14 @@ ghost use Rattle.folder.specs.Tab.{tab};
 ghost use Rattle.model.specs.Limits.{mostVariables, mostCommands};
 ghost use Rattle.model.specs.Layout.{variableCount};
 ghost use Rattle.model.specs.Model.{modelOf};
+ghost use Rattle.graph.specs.Figures.{over};
 ghost use Rattle.graph.specs.Simulation.{nodeSize, edgeBytes, kindOf};
 ghost use Rattle.building.specs.Building.{kindNumber, ifCovered};
 ghost use Rattle.building.specs.Length.{edgesBefore};
 ghost use Rattle.held.specs.Held.{fieldCount, heldIn, Whole};
 ghost use Rattle.nodes.specs.Born.{childrenIn, edgesIn};
 ghost use Rattle.wants.specs.Standing.{Held};
-ghost use Rattle.finish.specs.Finish.{bodiesOf, over};
+ghost use Rattle.finish.specs.Finish.{bodiesOf};
 ghost use Rattle.finish.specs.Laid.{Laid, finalValue, finalField, finalRecord, EdgesLaid, kindIn, Fits, OwnLaid, Ended};
 
 // ---- a node's final record
@@ -93,7 +94,7 @@ fn final_field(vars: usize, nb: &[u8], n: usize, edges: usize, f: usize) -> usiz
     u
 }
 
-// From the record itself: what a field is made of has not been put yet, or was put as it is.
+// From the record itself: what a field is made of has not been put yet, or says the same once it is put.
 fn put_record(vars: usize, nb: &mut [u8], n: usize, edges: usize)
     requires { ⌜ (vars ≤ mostVariables) × (n ≤ fieldLimit) × (edges < fieldLimit) ⌝ }
     requires { ⌜ Whole vars (now nb) n ⌝ }

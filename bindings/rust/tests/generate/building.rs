@@ -126,22 +126,29 @@ pub fn counting(end: i16, variables: usize, branches: u16) -> ModelData {
 /// How a random model with phases is made.
 struct Plan {
     phases: i16,
+    /// In so many phases, the first ones, branches are many, set what is carried and ask for
+    /// nothing.
+    fans: i16,
     /// Commands of a phase, branches of a command: no more than these.
     commands: usize,
     branches: usize,
-    /// Once in so many times a guard asks for what is carried; a branch changes it.
+    /// Once in so many times a guard asks for what is carried; a branch changes it; and the
+    /// next phase is any one.
     asks: usize,
     changes: usize,
+    leaps: usize,
 }
 
 impl Plan {
     fn any(random: &mut Random) -> Plan {
         Plan {
             phases: random.between(2, 6) as i16,
+            fans: random.between(0, 2) as i16,
             commands: random.pick(&[1, 1, 2, 3]),
-            branches: random.pick(&[1, 2, 3, 3, 6]),
+            branches: random.pick(&[1, 2, 3, 3]),
             asks: random.pick(&[1, 2, 3, 6]),
-            changes: random.pick(&[2, 3, 5, 12]),
+            changes: random.pick(&[2, 3, 5, 12, 100]),
+            leaps: random.pick(&[3, 6, 20]),
         }
     }
 }
@@ -209,7 +216,7 @@ impl Phased<'_> {
     /// In a phase, and now and then something more.
     fn guard(&mut self, phase: i16) -> u16 {
         let here = self.entries.variable_is(self.phase, phase);
-        if !self.random.once_in(self.plan.asks) {
+        if phase < self.plan.fans || !self.random.once_in(self.plan.asks) {
             return here;
         }
         let asked = self.asked();
@@ -221,11 +228,8 @@ impl Phased<'_> {
     }
 
     fn next_phase(&mut self, phase: i16) -> u16 {
-        let next = match self.random.below(8) {
-            0 => self.random.between(0, self.plan.phases.into()) as i16,
-            1 => phase,
-            _ => (phase + 1).min(self.plan.phases),
-        };
+        let any = self.random.between(0, self.plan.phases.into()) as i16;
+        let next = if self.random.once_in(self.plan.leaps) { any } else { phase + 1 };
         self.entries.constant(next)
     }
 
@@ -256,8 +260,12 @@ impl Phased<'_> {
 
     fn branch(&mut self, phase: i16) -> Vec<u16> {
         let mut state = self.entries.unchanged();
-        for v in 0..state.len() as u16 {
-            if v != self.phase && self.random.once_in(self.plan.changes) {
+        let phase_variable = self.phase;
+        for v in (0..state.len() as u16).filter(|&v| v != phase_variable) {
+            if phase < self.plan.fans {
+                let value = self.any_value(v);
+                state[usize::from(v)] = self.entries.constant(value);
+            } else if self.random.once_in(self.plan.changes) {
                 state[usize::from(v)] = self.change(v);
             }
         }
@@ -268,7 +276,8 @@ impl Phased<'_> {
     fn command(&mut self, phase: i16) {
         let guard = self.guard(phase);
         let total = self.entries.0.model.total;
-        let count = 1 + self.random.below(self.plan.branches.min(total.into()));
+        let most = if phase < self.plan.fans { 6 } else { self.plan.branches };
+        let count = 1 + self.random.below(most.min(total.into()));
         let weights = weights(self.random, total, count);
         let branches = weights.into_iter().map(|weight| (weight, self.branch(phase))).collect();
         self.entries.command(guard, branches);
@@ -282,10 +291,10 @@ impl Phased<'_> {
         }
         let at_end = self.entries.variable_is(self.phase, self.plan.phases);
         let asked = self.asked();
-        self.entries.0.model.target = match self.random.below(6) {
-            0 => at_end,
-            1 => asked,
-            2 => self.entries.never(),
+        self.entries.0.model.target = match self.random.below(20) {
+            0 => asked,
+            1..=4 => at_end,
+            5..=8 => self.entries.never(),
             _ => self.entries.and(at_end, asked),
         };
         self.entries.0.model
@@ -310,7 +319,7 @@ fn phased(random: &mut Random) -> ModelData {
 
 /// A random model.
 pub fn model(random: &mut Random) -> ModelData {
-    match random.below(5) {
+    match random.below(8) {
         0 => {
             let shape = Shape::small(random);
             models::model(random, &shape)

@@ -91,10 +91,13 @@ struct Numbered {
 
 const TOP: i16 = BOUND;
 
+/// No factor is greater.
+const MOST_FACTOR: i16 = 65;
+
 impl Numbered {
     fn new(phases: i16) -> Numbered {
         let mut entries = Entries(Builder::new(64, vec![[0, phases - 1, 0], [0, TOP, 0]]));
-        let numbers = (0..64).map(|c| entries.constant(c)).collect();
+        let numbers = (0..=MOST_FACTOR).map(|c| entries.constant(c)).collect();
         Numbered { entries, numbers }
     }
 
@@ -120,6 +123,14 @@ impl Numbered {
         spread(&mut self.entries, guard, states);
     }
 
+    /// From phase to phase, one for each factor.
+    fn multiply_all(&mut self, factors: &[i16]) {
+        for (phase, &factor) in factors.iter().enumerate() {
+            let next = self.numbers[phase + 1];
+            self.multiply(phase as i16, factor, next);
+        }
+    }
+
     /// The phase leads to another that has the same number, and that one asks for it.
     fn ask_after(&mut self, phase: i16, next: i16) {
         let entries = &mut self.entries;
@@ -138,14 +149,19 @@ impl Numbered {
     }
 }
 
+/// A tree of dead ends: every node of a phase leads to so many of the next. All nodes of the
+/// last phase but one are covered.
+pub fn tree(factors: &[i16]) -> ModelData {
+    let mut numbered = Numbered::new(factors.len() as i16 + 1);
+    numbered.multiply_all(factors);
+    numbered.finish()
+}
+
 /// The same with one number that is carried; the nodes that are alike come about in steps.
 fn dropped_by_number(factors: &[i16]) -> ModelData {
     let last = factors.len() as i16;
     let mut numbered = Numbered::new(last + 2);
-    for (phase, &factor) in factors.iter().enumerate() {
-        let next = numbered.numbers[phase + 1];
-        numbered.multiply(phase as i16, factor, next);
-    }
+    numbered.multiply_all(factors);
     numbered.ask_after(last, last + 1);
     numbered.finish()
 }

@@ -271,10 +271,17 @@ pub fn many_sets() -> Hostile {
 const CHAIN_ASKED: usize = MOST_COMMANDS;
 const CHAIN_SPARE: usize = CHAIN_ASKED + 4;
 
+/// For chains: all that is asked mentions variable 0 itself, so that it takes less depth.
+fn chain_maker() -> Maker {
+    let mut maker = Maker::new(&[2; 15]);
+    maker.tag = maker.leaves[0];
+    maker
+}
+
 /// A chain in which all that is asked hangs on one set of 12 two-valued variables, and uses
 /// most of the entries.
 pub fn chain_of_one_set() -> ModelData {
-    let mut maker = Maker::new(&[2; 15]);
+    let mut maker = chain_maker();
     let mut pieces = Vec::new();
     while maker.left() > 2 * CHAIN_SPARE + 20 {
         let entries = (maker.left() - 2 * CHAIN_SPARE).min(110);
@@ -287,26 +294,23 @@ pub fn chain_of_one_set() -> ModelData {
     maker.finish_chain(&numbers)
 }
 
-/// A chain in which whatever is asked hangs on a set of its own of 12 two-valued variables.
+/// A chain in which whatever is asked hangs on a set of its own of 12 two-valued variables,
+/// made of pieces as in `many_sets`.
 pub fn chain_of_many_sets() -> ModelData {
-    chain_of_sets(12, 9, 32, 3).expect("room is counted")
-}
-
-pub fn chain_of_sets(others: usize, taken: usize, entries: usize, step: usize) -> Option<ModelData> {
-    let mut maker = Maker::new(&[2; 15]);
-    let mut pieces = Vec::new();
-    for v in 1..=others {
-        let set: Vec<usize> = [v].into_iter().chain(others + 1..16).collect();
-        if maker.left() < entries + CHAIN_SPARE + 20 { return None }
-        pieces.push(maker.piece(&set, entries, taken as u32 / 2 + 1));
-    }
+    let mut maker = chain_maker();
+    let (others, taken, entries) = (12, 9, 24);
+    let pieces: Vec<Piece> = (1..=others)
+        .map(|v| {
+            let set: Vec<usize> = [v].into_iter().chain(others + 1..16).collect();
+            maker.piece(&set, entries, taken as u32 / 2 + 1)
+        })
+        .collect();
     let mut made = HashMap::new();
-    let choices = choices(&(0..others).collect::<Vec<_>>(), taken);
-    if choices.len() < CHAIN_ASKED * step { return None }
-    let mut numbers = Vec::new();
-    for choice in choices.into_iter().step_by(step).take(CHAIN_ASKED) {
-        if maker.left() < CHAIN_SPARE + 6 { return None }
-        numbers.push(maker.join(&pieces, &choice, &mut made)?);
-    }
-    Some(maker.finish_chain(&numbers))
+    let numbers: Vec<u16> = choices(&(0..others).collect::<Vec<_>>(), taken)
+        .into_iter()
+        .step_by(2)
+        .take(CHAIN_ASKED)
+        .map(|choice| maker.join(&pieces, &choice, &mut made).expect("room is counted"))
+        .collect();
+    maker.finish_chain(&numbers)
 }

@@ -1,101 +1,81 @@
+use Prim.Native.Nat.{_+_, _*_, _≤_}
+use mathlib.Core.Path.{_≡_, ap, _∙_}
+use denote.Ref.{now}
+use native.Mathlib.Omega.{arith}
 use borrow.Author.Needs.{needs}
+use Rattle.model.specs.Layout.{variableCount}
+use Rattle.graph.specs.Limits.{leastBytes, mostBytes}
+use Rattle.graph.specs.Simulation.{nodeSize}
+use Rattle.assembly.proofs.Certain.{room-lent, nodes-within, len-small, slice-long, certain-is}
 use Rattle.assembly.proofs.build_certain.Statement.{statement}
 use Rattle.assembly.proofs.build_certain.Tie as tie
-use Rattle.assembly.proofs.build_certain.Reads as reads
-use Rattle.assembly.proofs.build_certain.Lts as lts
-use Rattle.assembly.proofs.build.Reads as build-reads
-use Rattle.assembly.proofs.finish.Reads as finish-reads
-use Rattle.assembly.proofs.put_contents.Reads as put-contents-reads
-use Rattle.assembly.proofs.smaller.Reads as smaller-reads
-use Rattle.graph.proofs.node_size.Reads as node-size-reads
-use Rattle.graph.proofs.variable_count.Reads as variable-count-reads
 
--- src/lib.rt:122:9
-smaller-requires : tie.Need-smaller-requires
-smaller-requires c κs = search needs
+build-bodies-requires : tie.Need-build-bodies-requires
+build-bodies-requires c κs =
+    let s = c .before .before .before .before in
+    (s .pre .0, room-lent (now (s .args .m)) (s .pre .0) (now (s .args .out)) (s .pre .1) (c .before .smaller .ensures))
 
--- src/lib.rt:123:34
-sub-build : tie.Need-sub-build
-sub-build c = search needs
+-- The code's bytes of the nodes.
+abbrev bodied : tie.After-node-size → tie.After-build-bodies
+bodied c = c .before .before .before .before
 
--- src/lib.rt:123:34
-part-build-start : tie.Need-part-build-start
-part-build-start c = search needs
+abbrev smaller : tie.After-node-size → tie.After-smaller
+smaller c = bodied c .before .before
 
--- src/lib.rt:123:34
-part-build-end : tie.Need-part-build-end
-part-build-end c = search needs
+abbrev start : tie.After-node-size → tie.Start
+start c = smaller c .before .before .before
 
--- src/lib.rt:123:9
-build-requires : tie.Need-build-requires
-build-requires c κs = ?
+size-is : (c : tie.After-node-size) → c .node-size .result ≡ nodeSize (variableCount (now (start c .args .m)))
+size-is c = c .node-size .ensures .0 ∙ ap nodeSize (c .before .variable-count .ensures .0)
 
--- src/lib.rt:124:27
-sub-finish : tie.Need-sub-finish
-sub-finish c = search needs
+within : (c : tie.After-node-size) → leastBytes + c .node-size .result * bodied c .build-bodies .result .nodes ≤ bodied c .build-bodies .result .len
+within c =
+    let s = start c in
+    nodes-within (now (s .args .m)) (s .pre .0) (now (s .args .out)) (s .pre .1) (smaller c .smaller .ensures) (bodied c .build-bodies .ensures) (size-is c)
 
--- src/lib.rt:124:27
-part-finish-start : tie.Need-part-finish-start
-part-finish-start c = search needs
+small : (c : tie.After-node-size) → bodied c .build-bodies .result .len ≤ mostBytes
+small c =
+    let s = start c in
+    len-small (now (s .args .m)) (s .pre .0) (now (s .args .out)) (s .pre .1) (smaller c .smaller .ensures) (bodied c .build-bodies .ensures) (size-is c)
 
--- src/lib.rt:124:27
-part-finish-end : tie.Need-part-finish-end
-part-finish-end c = search needs
-
--- src/lib.rt:124:5
-finish-requires : tie.Need-finish-requires
-finish-requires c κs = ?
-
--- src/lib.rt:125:34
-variable-count-requires : tie.Need-variable-count-requires
-variable-count-requires c κs = search needs
-
--- src/lib.rt:125:17
-node-size-requires : tie.Need-node-size-requires
-node-size-requires c κs = search needs
-
--- src/lib.rt:125:17
 mul-nodes : tie.Need-mul-nodes
-mul-nodes c = ?
+mul-nodes c = omega (arith, within (c .before), small (c .before))
 
--- src/lib.rt:126:30
 sub-put-contents : tie.Need-sub-put-contents
-sub-put-contents c = ?
+sub-put-contents c = omega (arith, within (c .before .before .before))
 
--- src/lib.rt:126:30
 sub-put-contents-2 : tie.Need-sub-put-contents-2
-sub-put-contents-2 c = ?
+sub-put-contents-2 c = omega (arith, within (c .before .before .before))
 
--- src/lib.rt:126:5
 put-contents-requires : tie.Need-put-contents-requires
-put-contents-requires c κs = ?
+put-contents-requires c κs =
+    let n = c .before .before .before in
+    let s = start n in (
+      slice-long (now (s .args .m)) (s .pre .0) (now (s .args .out)) (s .pre .1) (smaller n .smaller .ensures) (bodied n .build-bodies .ensures) (size-is n),
+      omega (arith, within n, small n),
+      omega (arith, within n, small n),
+    )
 
--- src/lib.rt:115:1
-same-length : tie.Need-same-length
-same-length c = search needs
-
--- src/lib.rt:115:1
 returns : tie.Need-returns
-returns c = ?
+returns c =
+    let n = c .before .before .before .before .before .before in
+    let s = start n in
+    certain-is (now (s .args .m)) (s .pre .0) (now (s .args .out)) (s .pre .1) (smaller n .smaller .ensures) (bodied n .build-bodies .ensures) (size-is n) (c .before .before .put-contents .ensures)
 
 pub build-certain-spec : {M : Type 1} → statement M
 build-certain-spec =
     tie.close
     (tie.spec
-    smaller-requires
-    sub-build
-    part-build-start
-    part-build-end
-    build-requires
-    sub-finish
-    part-finish-start
-    part-finish-end
-    finish-requires
-    variable-count-requires
-    node-size-requires
+    (λ c κs. search needs)
+    (λ c. search needs)
+    (λ c. search needs)
+    (λ c. search needs)
+    build-bodies-requires
+    (λ c κs. search needs)
+    (λ c κs. search needs)
     mul-nodes
     sub-put-contents
     sub-put-contents-2
     put-contents-requires
-    same-length
+    (λ c. search needs)
     returns)

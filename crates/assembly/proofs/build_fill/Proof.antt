@@ -1,64 +1,61 @@
+use lib.ListN.{drop}
+use denote.Ref.{now}
+use native.Mathlib.Omega.{arith}
 use borrow.Author.Needs.{needs}
+use Rattle.model.specs.Model.{modelOf}
+use Rattle.graph.specs.Limits.{leastBytes, units}
+use Rattle.assembly.proofs.Filled.{builtIn, front-within, front-long, front-valid, front-few, nodes-few, bodies-there, nodes-there, filled-is}
 use Rattle.assembly.proofs.build_fill.Statement.{statement}
 use Rattle.assembly.proofs.build_fill.Tie as tie
-use Rattle.assembly.proofs.build_fill.Reads as reads
-use Rattle.assembly.proofs.build_fill.Lts as lts
-use Rattle.assembly.proofs.build_certain.Reads as build-certain-reads
-use Rattle.assembly.proofs.put_values.Reads as put-values-reads
-use Rattle.graph.proofs.variable_count.Reads as variable-count-reads
-use Rattle.lowering.proofs.lower.Reads as lower-reads
 
--- src/lib.rt:137:9
-build-certain-requires : tie.Need-build-certain-requires
-build-certain-requires c κs = search needs
+abbrev start : tie.After-build-certain → tie.Start
+start c = c .before .before .before .before
 
--- src/lib.rt:140:24
 slice-reshare-prefix-lower : tie.Need-slice-reshare-prefix-lower
-slice-reshare-prefix-lower c = ?
+slice-reshare-prefix-lower c =
+    let b = c .before .before in
+    let s = start b in
+    let e = b .build-certain .ensures in
+    front-within (now (s .args .m)) (s .pre .0) (now (s .args .out)) (s .pre .1 .room) (e .0) (e .1 .0) (e .1 .1)
 
--- src/lib.rt:140:24
 slice-aggregate-lower : tie.Need-slice-aggregate-lower
-slice-aggregate-lower c = ?
+slice-aggregate-lower c =
+    let b = c .before .before .before in
+    let s = start b in
+    let e = b .build-certain .ensures in
+    front-long (now (s .args .m)) (s .pre .0) (now (s .args .out)) (s .pre .1 .room) (e .0) (e .1 .0) (e .1 .1)
 
--- src/lib.rt:140:45
-slice-aggregate-lower-2 : tie.Need-slice-aggregate-lower-2
-slice-aggregate-lower-2 c = search needs
-
--- src/lib.rt:140:5
 lower-requires : tie.Need-lower-requires
-lower-requires c κs = ?
+lower-requires c κs =
+    let b = c .before .before .before .before in
+    let s = start b in
+    let e = b .build-certain .ensures in (
+      front-valid (now (s .args .m)) (s .pre .0) (now (s .args .out)) (s .pre .1 .room) (e .0) (e .1 .0) (e .1 .1),
+      front-few (now (s .args .m)) (s .pre .0) (now (s .args .out)) (s .pre .1 .room) (e .0) (e .1 .0) (e .1 .1),
+    )
 
--- src/lib.rt:142:9
-variable-count-requires : tie.Need-variable-count-requires
-variable-count-requires c κs = search needs
-
--- src/lib.rt:144:9
-slice-aggregate-put-values : tie.Need-slice-aggregate-put-values
-slice-aggregate-put-values c = search needs
-
--- src/lib.rt:145:9
-sub-put-values : tie.Need-sub-put-values
-sub-put-values c = search needs
-
--- src/lib.rt:145:9
-part-put-values-start : tie.Need-part-put-values-start
-part-put-values-start c = search needs
-
--- src/lib.rt:145:9
-part-put-values-end : tie.Need-part-put-values-end
-part-put-values-end c = search needs
-
--- src/lib.rt:141:5
 put-values-requires : tie.Need-put-values-requires
-put-values-requires c κs = ?
+put-values-requires c κs =
+    let b = c .before .before .before .before .before .before .before .before .before in
+    let s = start b in
+    let e = b .build-certain .ensures in
+    let v = c .before .before .variable-count .ensures in
+    let few = nodes-few (now (s .args .m)) (s .pre .0) (now (s .args .out)) (s .pre .1 .room) (e .0) (e .1 .0) (e .1 .1) in
+    (v .1, few, omega (arith, few, c .before .before .before .before .lower .kept .1 .1 .1 .0), nodes-there (now (s .args .m)) (s .pre .0) (now (s .args .out)) (s .pre .1 .room) (e .0) (e .1 .0) (e .1 .1) (v .0))
 
--- src/lib.rt:131:1
-same-length : tie.Need-same-length
-same-length c = search needs
-
--- src/lib.rt:131:1
 returns : tie.Need-returns
-returns c = ?
+returns c =
+    let b = c .before .before .before .before .before .before .before .before .before .before .before .before in
+    let s = start b in
+    let e = b .build-certain .ensures in
+    let v = c .before .before .before .before .before .variable-count .ensures in
+    filled-is (now (s .args .m)) (s .pre .0) (now (s .args .out)) (s .pre .1 .room) (e .0) (e .1 .0) (e .1 .1) (s .args .rounds) _
+    (c .before .before .before .before .before .before .before .lower .ensures)
+    (c .before .before .put-values .ensures (modelOf (now (s .args .m))) (builtIn (now (s .args .m)) (now (s .args .out))) (λ _. units) (drop leastBytes (now (s .args .out))) (v .0) (e .0)
+    (bodies-there (now (s .args .m)) (s .pre .0) (now (s .args .out)) (s .pre .1 .room) (e .0) (e .1 .0) (e .1 .1)))
+
+build-certain-requires : tie.Need-build-certain-requires
+build-certain-requires c κs = let s = c .before .before .before in (s .pre .0, s .pre .1 .room)
 
 pub build-fill-spec : {M : Type 1} → statement M
 build-fill-spec =
@@ -67,13 +64,13 @@ build-fill-spec =
     build-certain-requires
     slice-reshare-prefix-lower
     slice-aggregate-lower
-    slice-aggregate-lower-2
+    (λ c. search needs)
     lower-requires
-    variable-count-requires
-    slice-aggregate-put-values
-    sub-put-values
-    part-put-values-start
-    part-put-values-end
+    (λ c κs. search needs)
+    (λ c. search needs)
+    (λ c. search needs)
+    (λ c. search needs)
+    (λ c. search needs)
     put-values-requires
-    same-length
+    (λ c. search needs)
     returns)
