@@ -3,9 +3,11 @@ import os
 import shlex
 import threading
 import time
-from typing import NamedTuple
+from collections import defaultdict
+from typing import List, NamedTuple
 
 from . import native
+from .advice import runs
 from .errors import InputError, UsageError, counted
 from .files import STANDARD, named, of, read_some
 from .folder import (
@@ -39,12 +41,13 @@ class Asked(NamedTuple):
 
 
 class Built(NamedTuple):
-    """A graph, what the graph check tells of it, and whether another round would leave all values as they are."""
+    """A graph, and what the graph check tells of it."""
 
     data: bytes
     asked: Asked
     summary: native.Summary
-    settled: bool
+    settled: bool  # whether another round would leave all values as they are
+    endless: List[int]  # nodes from which it can go on for ever
 
     @property
     def counts(self):
@@ -97,30 +100,68 @@ def other_graph(path, data):
 # ---- building
 
 
-def edge_bytes(edges):
-    return sum(FIELD * (1 + len(edge.successors)) for edge in edges)
-
-
 def length_beyond(graph, size, most):
-    """The length of a built graph from the expansion on by which it has more than so many nodes. It is a tree, whose
-    nodes are numbered in the order in which expansions made them, so that the first successors tell that order."""
+    """The length of a built graph from the expansion on by which it has more than so many nodes, of which it has more.
+    It is a tree, whose nodes are numbered in the order in which expansions made them: first successors tell that order.
+    """
     nodes, length = 1, TABLE + size
     for edges in sorted(filter(None, graph.edges), key=lambda edges: edges[0].successors[0]):
         new = sum(len(edge.successors) for edge in edges)
-        nodes, length = nodes + new, length + size * new + edge_bytes(edges)
+        nodes, length = nodes + new, length + size * new + FIELD * (len(edges) + new)
         if nodes > most:
-            return length
-    return None
+            break
+    return length
 
 
-def built_within(model, asked):
-    """The graph of a model that the check accepts, built in the longest slice in which it has at most so many nodes."""
-    size = node_size(native.variables_of(model))
-    # No graph of so many nodes is longer: each but the root has a field in an edge, and the edge its command's.
-    graph = native.build(model, asked.rounds, TABLE + size * asked.nodes + 2 * FIELD * (asked.nodes - 1))
-    beyond = length_beyond(read_graph(graph, shape_of(model)), size, asked.nodes)
-    # It may have more, if edges have many branches: then it is built again, without the expansion that goes beyond.
-    return graph if beyond is None else native.build(model, asked.rounds, beyond - 1)
+def built_in(model, rounds, room):
+    """The graph that is built in a slice of so many bytes, and what the graph check tells of it."""
+    data = native.build(model, rounds, room)
+    try:
+        return data, native.graph_check(model, data)
+    except native.Refusal as refusal:
+        raise RunError(f"the library has built a graph that it refuses: {refusal}") from None
+
+
+def build(model, asked):
+    """The graph of a model, or the library's refusal: that of the longest slice in which it has no more nodes than are
+    asked for."""
+    native.model_check(model)
+    size, shape = node_size(native.variables_of(model)), shape_of(model)
+    # No graph of so many nodes is longer: each but the root has a field in an edge, and the edge one for its command.
+    data, summary = built_in(model, asked.rounds, TABLE + size * asked.nodes + 2 * FIELD * (asked.nodes - 1))
+    if summary.nodes > asked.nodes:  # Edges of many branches have left room for more.
+        beyond = length_beyond(read_graph(data, shape), size, asked.nodes)
+        data, summary = built_in(model, asked.rounds, beyond - 1)
+    graph = read_graph(data, shape)
+    return Built(data, asked, summary, is_settled(read_model(model), graph), endless(graph))
+
+
+def uncovered(graph, n):
+    """The node, or its cover."""
+    return graph.nodes[n].cover if graph.nodes[n].kind == COVERED else n
+
+
+def endless(graph):
+    """The nodes from which it can go on for ever, whatever is drawn: such a node has an edge by which all branches lead
+    to such nodes, or to what these cover."""
+    going, leading = [set(range(len(edges))) for edges in graph.edges], defaultdict(list)
+    for n, edges in enumerate(graph.edges):
+        for e, edge in enumerate(edges):
+            for s in edge.successors:
+                leading[uncovered(graph, s)].append((n, e))
+    ended = [n for n, edges in enumerate(going) if not edges]
+    while ended:
+        for n, e in leading[ended.pop()]:
+            if e in going[n]:
+                going[n].remove(e)
+                if not going[n]:
+                    ended.append(n)
+    return [n for n, edges in enumerate(going) if edges]
+
+
+def is_settled(model, graph):
+    """Whether another round would change no value."""
+    return all(node.value == next_value(model, graph, n) for n, node in enumerate(graph.nodes))
 
 
 def next_value(model, graph, n):
@@ -138,22 +179,6 @@ def least_value(model, graph, edge):
     weights = [model.branches[r].weight for r in model.branches_of(edge.command)]
     total = sum(weight * graph.nodes[s].value for weight, s in zip(weights, edge.successors))
     return -(-total // model.total)
-
-
-def is_settled(model, graph):
-    """Whether another round would change no value."""
-    return all(node.value == next_value(model, graph, n) for n, node in enumerate(graph.nodes))
-
-
-def build(model, asked):
-    """The graph of a model, or the library's refusal."""
-    native.model_check(model)
-    data = built_within(model, asked)
-    try:
-        summary = native.graph_check(model, data)
-    except native.Refusal as refusal:
-        raise RunError(f"the library has built a graph that it refuses: {refusal}") from None
-    return Built(data, asked, summary, is_settled(read_model(model), read_graph(data, shape_of(model))))
 
 
 # ---- patience
@@ -205,20 +230,23 @@ def waiting_note(built):
     return f"{held}; building ended at {MOST_NODES} nodes, the most that a graph has: {less}"
 
 
-def value_note(built):
-    """Why the root value may be higher than it need be; None if nothing says that it is."""
-    root, waiting, rounds = built.summary.root, built.summary.waiting, built.asked.rounds
-    if root == 0 or built.settled and root < CERTAIN:
-        return None
-    if built.settled and waiting:
-        return "more rounds do not lower the root value: nodes wait, or what can go on for ever holds it up"
-    if built.settled:
-        why = "values come down from certainty, so that what can go on for ever counts as reaching a target"
-        return f"more rounds do not lower the root value: {why}"
-    if rounds < MOST_ROUNDS:
+def rounds_note(built):
+    """What more rounds would do to a root value that is not 0."""
+    if not built.settled and built.asked.rounds < MOST_ROUNDS:
         return f"another round lowers values yet: --rounds, up to {MOST_ROUNDS}, may lower the root value"
-    slowly = "they come down from certainty, about one level of the graph in a round, and slowly where loops are likely"
-    return f"values are still falling after {MOST_ROUNDS} rounds, the most that there are: {slowly}"
+    if not built.settled:
+        slowly = "they come down from certainty, about one level of the graph in a round, slowly where loops are likely"
+        return f"values are still falling after {MOST_ROUNDS} rounds, the most that there are: {slowly}"
+    if built.summary.root == CERTAIN and not built.endless and not built.summary.waiting:
+        return "more rounds do not lower the root value: a target seems certain in the long run"
+    return None
+
+
+def endless_note(built):
+    """What it means that it can go on for ever."""
+    many = "nodes" if len(built.endless) > 1 else "node"
+    here = "which counts as reaching a target, however many rounds there are: the root value may be far too high"
+    return f"it can go on for ever from {many} {runs(built.endless)}, {here}"
 
 
 def places(model, out):
@@ -237,10 +265,9 @@ def figures_note(model, out):
 
 def notes(built, model, out):
     """What is worth knowing of a graph that was built of this model and stands there, a line each."""
-    value, waiting = value_note(built), built.summary.waiting
-    found = [waiting_note(built)] if waiting else []
-    if value:
-        found.append(value)
-    if value and not waiting:
-        found.append(figures_note(model, out))
-    return found
+    root, waiting = built.summary.root, built.summary.waiting
+    found = [rounds_note(built) if root else None, endless_note(built) if root and built.endless else None]
+    found = [note for note in found if note]
+    if waiting:
+        return [waiting_note(built), *found]
+    return [*found, figures_note(model, out)] if found else []

@@ -141,8 +141,8 @@ class Row:
         code, size = element
         view = row_view(row, what)
         if view.itemsize != size or view.format[-1:] not in FORMATS[code]:
-            raise TypeError(f"{what} has elements of {counted(size, 'byte')}, {'signed' if code == 'h' else 'unsigned'} "
-                            f"(array({code!r})), and these are {view.format!r} of {view.itemsize}")
+            asked = f"{counted(size, 'byte')}, {'signed' if code == 'h' else 'unsigned'} (array({code!r}))"
+            raise TypeError(f"{what} has elements of {asked}, and these are {view.format!r} of {view.itemsize}")
         if view.readonly:
             raise TypeError(f"{what} is written to, and this one can only be read")
         self.length = view.nbytes // size

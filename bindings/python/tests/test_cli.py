@@ -13,7 +13,7 @@ import unittest.mock
 
 from support import EXAMPLES, LAGUIPY, PEDAL, ROOT, SCAN, Room, example, examples, interruptible, read, run, start
 
-from laguipy import check
+from laguipy import check, cli
 from laguipy.advice import runs
 from laguipy.inputs import Pair
 from laguipy.output import RunError, Ticker
@@ -414,6 +414,7 @@ class OddFiles(Room):
             ("figures", self.MODEL, huge, "3"): (b"refused 12 0\n", "12: the graph has too few or too many bytes"),
             ("explain", self.MODEL, huge): (b"refused 12 0\nthe graph has over 1048576 bytes", ""),
             ("explain", huge, self.GRAPH): (b"refused 1 0\nthe model has over 40000 bytes", ""),
+            ("build", huge): (b"refused 1 0\n", "huge: the model has over 40000 bytes"),
             ("model", huge): (b"", texts),
             ("graph", huge, "-m", self.MODEL): (b"", texts),
             ("graph", os.path.join(PEDAL, "pedal.graph"), "-m", huge): (b"", texts),
@@ -524,6 +525,8 @@ class Output(unittest.TestCase):
         ("show", PEDAL),
         ("model", os.path.join(PEDAL, "pedal.model"), "-o", "-"),
         ("graph", os.path.join(PEDAL, "pedal.graph"), "-o", "-"),
+        ("build", PEDAL, "-o", "-"),
+        ("build", PEDAL, "--rounds", "1001"),
         ("--help",),
         ("--version",),
     )
@@ -566,7 +569,7 @@ class Output(unittest.TestCase):
 
     def test_help_and_version(self):
         due = [b"laguipy", read(os.path.join(ROOT, "VERSION")).strip()]
-        for words in ((), ("check",), ("figures",), ("model",), ("graph",), ("show",), ("explain",)):
+        for words in ((), *((command,) for command in cli.COMMANDS)):
             self.assertEqual(run(*words, "--help")[0], 0, words)
             status, out, _ = run(*words, "--version")
             self.assertEqual((status, out.split()[:2]), (0, due), words)

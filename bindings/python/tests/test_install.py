@@ -59,6 +59,8 @@ class Installed(unittest.TestCase):
         self.assertEqual((status, out.splitlines()[0]), (1, "refused 25 0"))
         self.assertIn("command 0 asks for 10000000 at least", out)
         self.assertEqual(self.laguipy("show", self.examples("pedal"))[0], 0)
+        built = self.laguipy("build", "-q", self.examples("pedal"), "-o", os.path.join(self.room, "built.fold"))
+        self.assertEqual((built[0], built[1].splitlines()[1], built[2]), (0, "root 1000000000 100 %", ""))
         version = self.laguipy("--version")[1]
         self.assertIn("toolchain ", version)
         self.assertEqual(sorted(os.walk(self.prefix)), before)

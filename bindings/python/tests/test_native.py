@@ -8,7 +8,7 @@ import threading
 import unittest
 from array import array
 
-from support import PEDAL, example, read
+from support import PEDAL, damaged_bytes, example, read, seeded
 
 import laguipy
 from laguipy import Refusal, native
@@ -112,8 +112,9 @@ class Answers(unittest.TestCase):
             32: (laguipy.step, MODEL, [1, 0], 1, 0),
             33: (laguipy.step, MODEL, [0, 0], 1, 1),
             34: (laguipy.index, MODEL, GRAPH, [0]),
+            35: (laguipy.build, MODEL, 1_001),
         }
-        self.assertEqual(set(ways), set(range(1, 35)) - {19, 21})
+        self.assertEqual(set(ways), set(range(1, 36)) - {19, 21})
         for number, way in ways.items():
             came, _, second = self.refused(*way)
             self.assertEqual((came, second), (number, 0))
@@ -171,6 +172,105 @@ class Answers(unittest.TestCase):
         for batch in ([40_000, 0], ["a", "b"], None, [0.5, 1]):
             with self.assertRaises((TypeError, ValueError)):
                 laguipy.index(MODEL, GRAPH, batch)
+
+
+class Built(unittest.TestCase):
+    """The builder. The graph of the pedal example's model is the example's, but for values."""
+
+    ONE, FOUR, WHOLE = 36, 106, 152  # bytes of a graph of one node, of the root with its successors, and of all nodes
+    SURE = laguipy.CERTAIN.to_bytes(4, "little")
+
+    def refused(self, *arguments):
+        with self.assertRaises(Refusal) as caught:
+            laguipy.build_in(*arguments)
+        return caught.exception.args
+
+    def test_pedal(self):
+        built = changed(GRAPH, (20, *self.SURE), (80, *self.SURE))
+        self.assertEqual(laguipy.build(MODEL), built)
+        self.assertEqual(laguipy.graph_check(MODEL, built), (laguipy.CERTAIN, 0, 3, 2, 1))
+        self.assertEqual(laguipy.figure(MODEL, built, 2).tolist(), FIGURES)
+
+    def test_rounds(self):
+        """Dead ends come down in the first round, what leads to them in the second."""
+        value = lambda graph, node: int.from_bytes(graph[20 + 20 * node :][:4], "little")  # noqa: E731
+        values = [[value(laguipy.build(MODEL, rounds), node) for node in range(6)] for rounds in (0, 1, 2, 3)]
+        sure, tenth = laguipy.CERTAIN, 100_000_000
+        self.assertEqual(values[0], [sure] * 6)
+        self.assertEqual(values[1], [sure, 0, sure, sure, 0, sure])
+        self.assertEqual(values[2:], [[sure, 0, tenth, sure, 0, sure]] * 2)
+        self.assertEqual(laguipy.build(MODEL, 3), laguipy.build(MODEL, laguipy.MOST_ROUNDS))
+
+    def test_room(self):
+        kinds = {self.ONE: (1, 0, 0, 0), self.FOUR: (2, 2, 0, 0), self.WHOLE: (0, 3, 2, 1)}
+        for room in (*range(self.ONE, self.WHOLE + 3), laguipy.GRAPH_BYTES, laguipy.GRAPH_BYTES + 1, 2**64 - 1):
+            graph = laguipy.build(MODEL, 7, room)
+            self.assertEqual(len(graph), max(length for length in kinds if length <= room))
+            self.assertEqual(laguipy.graph_check(MODEL, graph)[1:], kinds[len(graph)])
+
+    def test_the_slice(self):
+        """Bytes past the graph stay; refused, all of them."""
+        for make in (bytearray, lambda data: array("B", data), lambda data: memoryview(bytearray(data))):
+            out = make(b"\x5a" * 200)
+            part = laguipy.build_in(MODEL, 0, out)
+            self.assertEqual((bytes(part), len(part)), (laguipy.build(MODEL, 0), self.WHOLE))
+            self.assertEqual(bytes(out), bytes(part) + b"\x5a" * 48)
+        for model, rounds, room, due in (
+            (MODEL, 1_000, self.ONE - 1, (35, 0, 0)),
+            (MODEL, 1_001, self.ONE, (35, 1, 0)),
+            (MODEL, 2**64 - 1, self.WHOLE, (35, 1, 0)),
+            (MODEL, 1_001, 0, (35, 0, 0)),
+            (MODEL[1:], 1_001, 0, (2, 0, 0)),
+            (changed(MODEL, (160, 8)), 1_001, self.ONE - 1, (11, 0, 0)),
+            (b"", 0, self.WHOLE, (1, 0, 0)),
+        ):
+            out = bytearray(b"\x5a" * room)
+            self.assertEqual(self.refused(model, rounds, out), due)
+            self.assertEqual(out, b"\x5a" * room)
+
+    def test_every_model(self):
+        """What is built is accepted, whatever the model and the room are."""
+        dice, accepted = seeded(35), 0
+        for name in ("pedal", "scan_loop", "mixer", "dead_converter"):
+            for _ in range(500):
+                model, room = damaged_bytes(example(name)[0], dice), dice.choice((40, 100, 200, 400, 9_000, 600_000))
+                try:
+                    laguipy.model_check(model)
+                    graph = laguipy.build(model, dice.randrange(9), room)
+                    self.assertLessEqual(len(graph), room)
+                    self.assertEqual(laguipy.graph_check(model, graph).nodes > 0, True)
+                    accepted += 1
+                except Refusal as refusal:
+                    self.assertIn(refusal.number, range(1, 12))
+        self.assertGreaterEqual(accepted, 50)
+
+    def test_a_deep_graph(self):
+        """A value moves up a level in a round, so that 1,000 rounds bring that of a chain of 1,000 nodes down."""
+        for length, root in ((1_000, 0), (1_001, laguipy.CERTAIN), (1_500, laguipy.CERTAIN)):
+            text = f"total 1\nvariable x 0..{length - 1} = 0\ntarget x < 0\ncommand x < {length - 1}\n"
+            model = laguipy.write_model(text + f"  1: x' = smaller(x + 1, {length - 1})\n").data
+            found = laguipy.graph_check(model, laguipy.build(model))
+            self.assertEqual((found.root, found.expanded), (root, length))
+
+    def test_arguments(self):
+        held = bytearray(MODEL)
+        self.assertEqual(laguipy.build_in(held, 0, held), laguipy.build(MODEL, 0))
+        for out in (None, 5, "text", bytes(200), array("H", bytes(200)), array("b", bytes(200)), [0] * 200):
+            with self.assertRaises(TypeError, msg=repr(out)):
+                laguipy.build_in(MODEL, 0, out)
+        with self.assertRaises(TypeError):
+            laguipy.build_in(MODEL, 0, memoryview(bytearray(400))[::2])
+        for rounds, room in ((-1, 200), (2**64, 200), (0, -1), (0, 2**64)):
+            with self.assertRaises(ValueError):
+                laguipy.build(MODEL, rounds, room)
+        for rounds, room in ((1.5, 200), ("1", 200), (0, None)):
+            with self.assertRaises(TypeError):
+                laguipy.build(MODEL, rounds, room)
+        with self.assertRaises(TypeError):
+            laguipy.build("text")
+        out = bytearray(200)
+        laguipy.build_in(MODEL, 0, out).release()
+        out.append(1)
 
 
 class Arguments(unittest.TestCase):

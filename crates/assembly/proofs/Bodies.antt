@@ -17,7 +17,7 @@ use Rattle.building.specs.Built.{built}
 use Rattle.put.specs.Put.{Stays}
 use Rattle.held.specs.Held.{heldIn}
 use Rattle.work.specs.Working.{limitOf, Grown}
-use Rattle.assembly.specs.Stub.{bodiesOf}
+use Rattle.finish.specs.Finish.{bodiesOf}
 use Rattle.assembly.specs.Stages.{bodiesBy, Bodied}
 use Rattle.assembly.proofs.BytesLaws.{bodies-long}
 

@@ -1,4 +1,5 @@
 // Document 02, 2.5: a graph built in a lent slice. Row 35; then the moves, the edges, the contents, and the values.
+use builder::Size;
 use folder::Outcome;
 use folder::Refusal;
 use graph::MOST_NODES;
@@ -22,32 +23,8 @@ ghost use Rattle.put.specs.Put.{Stays};
 ghost use Rattle.held.specs.Held.{heldIn};
 ghost use Rattle.wants.specs.Standing.{Held};
 ghost use Rattle.work.specs.Working.{limitOf, Grown};
-ghost use Rattle.assembly.specs.Stub.{bodiesOf};
 ghost use Rattle.assembly.specs.Stages.{contentsBy, bodiesBy, Bodied};
-ghost use Rattle.assembly.specs.Build.{oneNode, limitFor, BuildRight, buildRows, bytesFor};
-
-// STUBS of crates builder, finish
-pub struct Size {
-    pub nodes: usize,
-    pub len: usize,
-}
-
-fn build(m: &[u8], longest: usize, nb: &mut [u8]) -> Size
-    requires { ⌜ Valid (now m) ⌝ }
-    requires { ⌜ (leastBytes + nodeSize (variableCount (now m)) ≤ longest) × (longest ≤ leastBytes + length (now nb)) × (longest ≤ mostBytes) ⌝ }
-    ensures { λ r. ⌜ heldIn (now (m .entry)) (r .nodes) (now (nb .exit)) ≡ built (modelOf (now (m .entry))) (limitOf longest) ⌝ }
-    ensures { λ r. ⌜ Grown (now (m .entry)) longest (r .nodes) (r .len) (now (nb .exit)) ⌝ }
-    ensures { λ r. ⌜ Stays 0 (nodeSize (variableCount (now (m .entry))) * (r .nodes)) (now (nb .entry)) (now (nb .exit)) ⌝ }
-{
-    Size { nodes: 0, len: 0 }
-}
-
-fn finish(m: &[u8], nodes: usize, nb: &mut [u8])
-    requires { ⌜ Held (now m) nodes (now nb) ⌝ }
-    requires { ⌜ nodeSize (variableCount (now m)) * nodes + edgesBefore (modelOf (now m)) (heldIn (now m) nodes (now nb)) nodes ≤ length (now nb) ⌝ }
-    ensures { λ _. ⌜ now (nb .exit) ≡ over (bodiesOf (modelOf (now (m .entry))) (heldIn (now (m .entry)) nodes (now (nb .entry)))) (now (nb .entry)) ⌝ }
-{}
-// END OF STUBS
+ghost use Rattle.assembly.specs.Build.{oneNode, limitFor, BuildRight, buildRows, bytesFor, answerOf, sliceOf};
 
 // The length of a graph, or why there is none.
 pub enum BuildAnswer {
@@ -112,8 +89,8 @@ fn build_bodies(m: &[u8], longest: usize, nb: &mut [u8]) -> Size
     requires { ⌜ (leastBytes + nodeSize (variableCount (now m)) ≤ longest) × (longest ≤ leastBytes + length (now nb)) × (longest ≤ mostBytes) ⌝ }
     ensures { λ r. ⌜ Bodied (now (m .entry)) longest (r .nodes) (r .len) (now (nb .entry)) (now (nb .exit)) ⌝ }
 {
-    let size = build(m, longest, nb);
-    finish(m, size.nodes, nb);
+    let size = builder::build(m, longest, nb);
+    finish::finish(m, size.nodes, nb);
     size
 }
 
@@ -150,4 +127,17 @@ pub fn build_fill(m: &[u8], rounds: usize, out: &mut [u8]) -> usize
         &mut out[LEAST_BYTES..],
     );
     len
+}
+
+// Row 35 and the slice. Refused, it stays.
+pub fn build_lent(m: &[u8], rounds: usize, out: &mut [u8]) -> BuildAnswer
+    requires { ⌜ Valid (now m) ⌝ }
+    ensures { λ r. ⌜ r ≡ answerOf (modelOf (now (m .entry))) rounds (now (out .entry)) (outcome (buildRows (modelOf (now (m .entry))) rounds (now (out .entry)))) ⌝ }
+    ensures { λ _. ⌜ now (out .exit) ≡ sliceOf (modelOf (now (m .entry))) rounds (now (out .entry)) (outcome (buildRows (modelOf (now (m .entry))) rounds (now (out .entry)))) ⌝ }
+{
+    let o = build_check(m, rounds, out);
+    match o {
+        Outcome::Refused(f) => BuildAnswer::Refused(f),
+        Outcome::Accepted => BuildAnswer::Built(build_fill(m, rounds, out)),
+    }
 }

@@ -15,56 +15,6 @@ ghost use Rattle.put.specs.Put.{Stays};
 ghost use Rattle.held.specs.Held.{heldIn};
 ghost use Rattle.work.specs.Working.{limitOf, Working, Grown};
 
-// STUBS
-use nodes::Move;
-ghost use mathlib.Core.Bool.{true};
-ghost use Rattle.graph.specs.Limits.{mostNodes};
-ghost use Rattle.building.specs.First.{there};
-ghost use Rattle.building.specs.Moves.{nextMove};
-ghost use Rattle.building.specs.Working.{ParentRight, Settled, HintRight, MarkRight, NextRight};
-ghost use Rattle.nodes.specs.Told.{told};
-ghost use Rattle.wants.specs.Standing.{parentIn, hintIn, rowIn, Standing};
-ghost use Rattle.work.specs.Working.{graphIn, Lent, Looked, ToMake, Ready, Made};
-fn next_move(
-    m: &[u8],
-    nb: &mut [u8],
-    masks: &[u16],
-    marks: &mut [u8],
-    longest: usize,
-    w: Work,
-) -> Move
-    requires { ⌜ Standing (now m) (now masks) (w .nodes) (now nb) ⌝ }
-    requires { ⌜ Lent (now m) longest w (now nb) ⌝ }
-    requires { ⌜ ParentRight (modelOf (now m)) (graphIn (now m) w (now nb)) (parentIn (now m) (now nb)) ⌝ }
-    requires { ⌜ Settled (modelOf (now m)) (graphIn (now m) w (now nb)) (w .fresh) ⌝ }
-    requires { ⌜ HintRight (modelOf (now m)) (graphIn (now m) w (now nb)) (hintIn (now m) (now nb)) (w .fresh) ⌝ }
-    requires { ⌜ MarkRight (modelOf (now m)) (graphIn (now m) w (now nb)) (rowIn (now marks)) (w .low) (w .high) ⌝ }
-    requires { ⌜ NextRight (modelOf (now m)) (graphIn (now m) w (now nb)) (w .next) ⌝ }
-    requires { ⌜ (w .low ≤ w .high) × (w .high ≤ w .nodes) × (w .next ≤ w .nodes) × (mostNodes ≤ length (now marks)) ⌝ }
-    ensures { λ r. ⌜ told r ≡ nextMove (modelOf (now (m .entry))) (limitOf longest) (graphIn (now (m .entry)) w (now (nb .entry))) ⌝ }
-    ensures { λ _. ⌜ Looked (now (m .entry)) w (now (nb .entry)) (now (nb .exit)) ⌝ }
-    ensures { λ r. ⌜ ToMake (now (m .entry)) w (now (nb .exit)) (now (marks .exit)) (told r) ⌝ }
-{
-    Move::Nothing
-}
-fn make(
-    m: &[u8],
-    nb: &mut [u8],
-    masks: &[u16],
-    marks: &mut [u8],
-    reaches: &mut [u16],
-    longest: usize,
-    w: Work,
-    mv: Move,
-) -> Work
-    requires { ⌜ Ready (now m) (now masks) longest w (now nb) (now marks) (now reaches) (told mv) ⌝ }
-    requires { ⌜ there (told mv) ≡ true ⌝ }
-    ensures { λ r. ⌜ Made (now (m .entry)) (now (masks .entry)) longest w (now (nb .entry)) (told mv) r (now (nb .exit)) (now (marks .exit)) (now (reaches .exit)) ⌝ }
-{
-    w
-}
-// END
-
 // The contents stand before the node records.
 const LEAST_BYTES: usize = 16;
 
@@ -90,10 +40,10 @@ fn grow(
     ensures { λ r. ⌜ Stays 0 (nodeSize (variableCount (now (m .entry))) * (r .nodes)) (now (nb .entry)) (now (nb .exit)) ⌝ }
 {
     let mut w = start;
-    let mut mv = next_move(m, nb, masks, marks, longest, w);
+    let mut mv = growth::next_move(m, nb, masks, marks, longest, w);
     while repairs::is_move(mv) {
-        w = make(m, nb, masks, marks, reaches, longest, w, mv);
-        mv = next_move(m, nb, masks, marks, longest, w);
+        w = making::make(m, nb, masks, marks, reaches, longest, w, mv);
+        mv = growth::next_move(m, nb, masks, marks, longest, w);
     }
     Size {
         nodes: w.nodes,

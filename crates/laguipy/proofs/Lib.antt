@@ -1,3 +1,4 @@
 pub mod Cases
 pub mod CallLaws
 mod IndexLaws
+pub mod BuildLaws

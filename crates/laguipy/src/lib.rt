@@ -1,6 +1,7 @@
 // Laguipy: machine-checked answers about probabilistic systems. The calls of document 01 on two folders' bytes. None asks
 // anything of its arguments; each contract gives the answer and every row's content as equal to a definition, and
 // graph/proofs/Demand.antt says what an accepted graph gives.
+use assembly::BuildAnswer;
 use folder::Outcome;
 use graph::GraphAnswer;
 use graph::Summary;
@@ -13,6 +14,7 @@ ghost use Rattle.model.specs.View.{viewStart, viewPart};
 ghost use Rattle.model.specs.Step.{stepOutcome, stepRow};
 ghost use Rattle.graph.specs.Table.{graphOutcome, graphAnswer};
 ghost use Rattle.index.specs.Index.{indexAnswer, slotsRow, answersRow, listingRow};
+ghost use Rattle.assembly.specs.Build.{buildAnswer, builtSlice};
 ghost use Rattle.graph.specs.Figures.{figureOutcome, firstRow, secondRow, figurePart, figureInFirst};
 
 // The model check: rows 1 to 11.
@@ -126,6 +128,18 @@ pub fn index(
     match o {
         Outcome::Refused(f) => IndexAnswer::Refused(f),
         Outcome::Accepted => index::index_fill(model, graph, slots, batch, answers, listing),
+    }
+}
+
+// The build call: a graph of the model in the lent slice, with its values after the rounds asked for.
+pub fn build(model: &[u8], rounds: usize, out: &mut [u8]) -> BuildAnswer
+    ensures { λ r. ⌜ r ≡ buildAnswer (now (model .entry)) rounds (now (out .entry)) ⌝ }
+    ensures { λ _. ⌜ now (out .exit) ≡ builtSlice (now (model .entry)) rounds (now (out .entry)) ⌝ }
+{
+    let o = model_rules::check_model(model);
+    match o {
+        Outcome::Refused(f) => BuildAnswer::Refused(f),
+        Outcome::Accepted => assembly::build_lent(model, rounds, out),
     }
 }
 

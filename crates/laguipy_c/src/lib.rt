@@ -1,6 +1,7 @@
 // The calls of `laguipy` for C and for Rust, in a static library; include/laguipy.h declares them. A slice crosses as
 // pointer and length. An enum or a part of a slice does not: each call returns the number of its answer, 0 for
 // acceptance, and writes what comes with it into numbers that the caller lends, which are written on every call.
+use assembly::BuildAnswer;
 use folder::Outcome;
 use graph::GraphAnswer;
 use index::IndexAnswer;
@@ -14,6 +15,7 @@ ghost use Rattle.model.specs.View.{viewStart};
 ghost use Rattle.model.specs.Step.{stepOutcome, stepRow};
 ghost use Rattle.graph.specs.Table.{graphAnswer, answerNumber, answerPlaces, answerValues};
 ghost use Rattle.graph.specs.Figures.{figureOutcome, inFirst, firstRow, secondRow};
+ghost use Rattle.assembly.specs.Build.{buildAnswer, builtSlice, buildNumber, buildPlaces, buildLength};
 ghost use Rattle.index.specs.Index.{indexAnswer, slotsRow, answersRow, listingRow, indexNumber, indexPlaces, indexListed};
 ghost use Rattle.laguipy_c.specs.Answers.{viewPlace, figurePlace};
 
@@ -256,6 +258,53 @@ pub extern "C" fn laguipy_index(
     *place = index_places(a);
     *listed = index_listed(a);
     index_number(a)
+}
+
+fn build_number(a: BuildAnswer) -> usize
+    ensures { λ r. ⌜ r ≡ buildNumber a ⌝ }
+{
+    match a {
+        BuildAnswer::Built(_) => 0,
+        BuildAnswer::Refused(f) => f.number,
+    }
+}
+
+fn build_places(a: BuildAnswer) -> [usize; 2]
+    ensures { λ r. ⌜ r ≡ buildPlaces a ⌝ }
+{
+    match a {
+        BuildAnswer::Built(_) => [0, 0],
+        BuildAnswer::Refused(f) => [f.place, f.second],
+    }
+}
+
+fn build_length(a: BuildAnswer) -> usize
+    ensures { λ r. ⌜ r ≡ buildLength a ⌝ }
+{
+    match a {
+        BuildAnswer::Built(n) => n,
+        BuildAnswer::Refused(_) => 0,
+    }
+}
+
+// The build call.
+#[no_mangle]
+pub extern "C" fn laguipy_build(
+    model: &[u8],
+    rounds: usize,
+    out: &mut [u8],
+    place: &mut [usize; 2],
+    length: &mut usize,
+) -> usize
+    ensures { λ r. ⌜ r ≡ buildNumber (buildAnswer (now (model .entry)) rounds (now (out .entry))) ⌝ }
+    ensures { λ _. ⌜ now (out .exit) ≡ builtSlice (now (model .entry)) rounds (now (out .entry)) ⌝ }
+    ensures { λ _. ⌜ now (place .exit) ≡ buildPlaces (buildAnswer (now (model .entry)) rounds (now (out .entry))) ⌝ }
+    ensures { λ _. ⌜ now (length .exit) ≡ buildLength (buildAnswer (now (model .entry)) rounds (now (out .entry))) ⌝ }
+{
+    let a = laguipy::build(model, rounds, out);
+    *place = build_places(a);
+    *length = build_length(a);
+    build_number(a)
 }
 
 // The step of a state by a branch of a command, into a lent row.

@@ -2,7 +2,7 @@
 -- Assumes nothing.
 use Prim.Native.Nat.{ℕ, _+_, _*_, _<_, _≤_, min, max}
 use mathlib.Core.Path.{_≡_, refl, sym, ap, _∙_, subst}
-use mathlib.Core.Bool.{Bool, true, false, false≢true}
+use mathlib.Core.Bool.{false≢true}
 use mathlib.Core.Option.{some}
 use mathlib.Core.List.{List}
 use native.Mathlib.Decide.{decLt, ℕ-discrete}
@@ -17,8 +17,7 @@ use Rattle.model.specs.Valid.{Valid}
 use Rattle.graph.specs.Limits.{mostNodes}
 use Rattle.graph.specs.Simulation.{nodeSize}
 use Rattle.building.specs.First.{put}
-use Rattle.building.specs.Building.{Building, isOpen, kindNumber, ifExpanded}
-use Rattle.building.specs.Length.{graphLength}
+use Rattle.building.specs.Building.{Building, kindNumber, ifExpanded}
 use Rattle.building.specs.Moves.{Move, drop, coverBy, reach, apply, becoming}
 use Rattle.building.specs.Working.{Settled, HintRight, ReachRight, MarkRight, NextRight}
 use Rattle.building.specs.Near.{OutOfReach}
@@ -27,11 +26,11 @@ use Rattle.building.proofs.Lengths.{length-becoming}
 use Rattle.building.proofs.Working.{read-becoming, settled-becoming, parent-becoming, hint-becoming, reach-becoming, next-becoming, mark-becoming, all-settled, hint-put}
 use Rattle.put.specs.Put.{Stays}
 use Rattle.held.specs.Held.{kindField, coverField, parentField, readField, hintField, fieldCount, nodeIn, heldIn, putIn, Whole}
-use Rattle.held.proofs.FieldLaws.{whole-at, put-long, put-here, put-there, put-within}
+use Rattle.held.proofs.FieldLaws.{put-here, put-there}
 use Rattle.held.proofs.Made.{becomeIn, become-other, become-long, drop-made, cover-made, reach-made, held-same}
 use Rattle.nodes.proofs.Expanded.{variables-some}
 use Rattle.wants.specs.Standing.{readIn, parentIn, hintIn, rowIn}
-use Rattle.work.specs.Working.{limitOf, graphIn, Ready, Made, ToRepair, ToGrow}
+use Rattle.work.specs.Working.{limitOf, graphIn, Ready, Made, ToGrow}
 use Rattle.work.specs.declared.Work.{Work}
 use Rattle.making.proofs.Marks.{none-set}
 use Rattle.making.proofs.Lowest.{lowest}

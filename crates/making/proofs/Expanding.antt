@@ -6,11 +6,10 @@ use mathlib.Core.Option.{some}
 use mathlib.Core.List.{List, []}
 use native.Mathlib.Decide.{decLt}
 use native.Mathlib.Omega.{arith}
-use lib.ListN.{length, getD, set, length-set}
+use lib.ListN.{length, set, length-set}
 use lib.IntN.{ℤ}
 use Rattle.folder.specs.Fields.{fieldLimit}
 use Rattle.folder.specs.Contents.{body, countOf}
-use Rattle.expressions.specs.Meaning.{State}
 use Rattle.states.specs.Stated.{StateRow}
 use Rattle.model.specs.Layout.{variableCount}
 use Rattle.model.specs.Limits.{mostVariables, mostCommands}
@@ -21,16 +20,15 @@ use Rattle.graph.specs.Limits.{leastBytes, mostBytes, mostNodes}
 use Rattle.graph.specs.Simulation.{nodeSize}
 use Rattle.building.specs.Building.{Building, startSet, births}
 use Rattle.building.specs.Length.{edgesLength, graphLength, lengthWith}
-use Rattle.building.specs.Moves.{Limit, Move, expand, apply}
+use Rattle.building.specs.Moves.{Limit, expand}
 use Rattle.building.specs.Kept.{Kept}
 use Rattle.building.proofs.Lengths.{length-expanding}
 use Rattle.building.proofs.Working.{read-expanding, settled-expanding, parent-expanding, hint-expanding, reach-expanding, next-expanding, mark-expanding}
-use Rattle.put.specs.Put.{Stays}
-use Rattle.held.specs.Held.{kindField, childField, parentField, readField, hintField, nodeIn, stateIn, setIn, heldIn, putIn, NodeHere}
+use Rattle.held.specs.Held.{kindField, childField, parentField, readField, hintField, nodeIn, stateIn, setIn, putIn, NodeHere}
 use Rattle.held.proofs.Made.{counted-in}
 use Rattle.nodes.specs.Born.{recordsIn, childrenIn, edgesIn, Brood, BroodFits}
 use Rattle.nodes.proofs.Expanded.{records-few, children-is, edges-is, brood-fits, variables-some, expandedIn, expand-other, parent-is, read-none, hint-none, expand-made}
-use Rattle.wants.specs.Standing.{readIn, parentIn, hintIn, rowIn}
+use Rattle.wants.specs.Standing.{parentIn}
 use Rattle.work.specs.Working.{limitOf, graphIn, ToGrow, Ready, Made}
 use Rattle.work.specs.declared.Work.{Work}
 use Rattle.making.proofs.Marks.{none-set}
@@ -95,8 +93,110 @@ module _ {m masks : List ℕ} {longest : ℕ} {w : Work} {nb marks reaches : Lis
     len-is : w .len + (nodeSize (variableCount m) * born + bytes) ≡ lengthWith M B n
     len-is = (λ i. R .lent .counted i + (nodeSize (variableCount m) * born-is i + bytes-are i)) ∙ sym (with-parts M B n)
 
-    pub len-small : w .len + (nodeSize (variableCount m) * born + bytes) ≤ mostBytes
+    len-small : w .len + (nodeSize (variableCount m) * born + bytes) ≤ mostBytes
     len-small = omega (arith, len-is, told-of (expand n) R .3, R .lent .limit)
 
     room : nodeSize (variableCount m) * (w .nodes + born) ≤ length nb
     room = omega (arith, len-is, told-of (expand n) R .3, R .lent .lent, R .lent .counted, nodes-part M B)
+
+    -- What the code asks, with the names that it has for the parts.
+    module _ {commands : ℕ} {cs : List ℕ} (q : cs ≡ body m 3) (k : commands ≡ countOf 4 cs) where
+      commands-are : commands ≡ modelOf m .commands
+      commands-are = k ∙ ap (countOf 4) q
+
+      pub few-commands : commands ≤ mostCommands
+      few-commands = omega (arith, commands-are, limits (valid (expand n) R .folder) .commands)
+
+      pub born-as : {b : ℕ} → b ≡ childrenIn cs row commands → b ≡ childrenIn (body m 3) row (modelOf m .commands)
+      born-as h = rw (commands-are, q) at h
+
+      pub bytes-as : {b : ℕ} → b ≡ edgesIn cs row commands → b ≡ edgesIn (body m 3) row (modelOf m .commands)
+      bytes-as h = rw (commands-are, q) at h
+
+      module _ {vars : ℕ} {bs : List ℕ} (p : vars ≡ variableCount m) (r : bs ≡ body m 4) where
+        pub may-put : ((0 < vars) × (vars ≤ mostVariables) × (commands ≤ mostCommands) × (recordsIn cs commands ≤ fieldLimit) × (n < fieldLimit))
+            × ((w .nodes + childrenIn cs row commands ≤ fieldLimit) × ((nodeSize vars * (w .nodes + childrenIn cs row commands) ≤ length nb) × BroodFits vars cs bs row commands))
+        may-put = rw (p, commands-are, q, r) (
+          (variables-some (valid (expand n) R), limits (valid (expand n) R .folder) .variables, limits (valid (expand n) R .folder) .commands, records-few (valid (expand n) R), in-field (expand n) R there),
+          (omega (arith, few), (room, brood-fits (valid (expand n) R) stated range)),
+        )
+
+        pub brood-as : {new : List ℕ} → Brood vars cs bs row n (w .nodes) commands nb new → Brood (variableCount m) (body m 3) (body m 4) row n (w .nodes) (modelOf m .commands) nb new
+        brood-as h = rw (p, commands-are, q, r) at h
+
+    -- The sums that it makes fit.
+    module _ {vars size b e : ℕ} (p : vars ≡ variableCount m) (s : size ≡ nodeSize vars) (x : b ≡ childrenIn (body m 3) row (modelOf m .commands)) (y : e ≡ edgesIn (body m 3) row (modelOf m .commands)) where
+      sum-small : w .len + (size * b + e) ≤ mostBytes
+      sum-small = rw (s, p, x, y) len-small
+
+      pub nodes-fit : size * b < 2 ^ 64
+      nodes-fit = omega (arith, sum-small)
+
+      pub added-fit : size * b + e < 2 ^ 64
+      added-fit = omega (arith, sum-small)
+
+      pub len-fits : w .len + (size * b + e) < 2 ^ 64
+      len-fits = omega (arith, sum-small)
+
+      pub count-fits : w .nodes + b < 2 ^ 64
+      count-fits = omega (arith, few)
+
+      pub there-still : n < w .nodes + b
+      there-still = omega (arith, there)
+
+    module _ {new : List ℕ} (brood : Brood (variableCount m) (body m 3) (body m 4) row n (w .nodes) (modelOf m .commands) nb new) where
+      abbrev final : List ℕ
+      final = expandedIn (variableCount m) new n (w .nodes)
+
+      old-field : (f : ℕ) → f < 6 + 2 * variableCount m → (f ≡ kindField → ⊥) → (f ≡ childField → ⊥) → (i : ℕ) → i < w .nodes → nodeIn m final i f ≡ nodeIn m nb i f
+      old-field f l p q i h = expand-other (valid (expand n) R) there brood i f h l (λ e. p) (λ e. q)
+
+      new-field : (f u : ℕ) → ((j : ℕ) → j < born → nodeIn m final (w .nodes + j) f ≡ u) → (j : ℕ) → j < births M (B .state n) → nodeIn m final (w .nodes + j) f ≡ u
+      new-field f u h j l = h j (omega (arith, born-is))
+
+      parent-low : (i : ℕ) → i < w .nodes + born → parentIn m final i < w .nodes + born
+      parent-low i l = go (decLt i (w .nodes))
+        where
+          go : Dec (i < w .nodes) → parentIn m final i < w .nodes + born
+          go (yes h) = omega (arith, old-field parentField (omega arith) (λ e. omega arith) (λ e. omega arith) i h, R .bounds .0 i h)
+          go (no d) =
+              let j : ℕ = i - w .nodes in
+              let e : i ≡ w .nodes + j = omega arith in
+              let h : parentIn m final i ≡ n = ap (parentIn m final) e ∙ parent-is (valid (expand n) R) there brood j (omega arith) in
+              omega (arith, there)
+
+      pub expanded : Made m masks longest w nb (some (expand n)) (working (w .nodes + born) (w .len + (nodeSize (variableCount m) * born + bytes)) n n (n + 1) n) final (set marks n 1) reaches
+      expanded =
+          let v = valid (expand n) R in
+          let waits = told-of (expand n) R .1 in
+          let T : ToGrow m w nb marks n = R .to-make in
+          made (expand n) R (expand-made v there brood stated range (R .standing .held .long) (omega (arith, K .few)))
+          (record {
+            counted = len-is ∙ sym (length-expanding M B n there waits);
+            read = read-expanding M P B K n there waits (old-field readField (omega arith) (λ e. omega arith) (λ e. omega arith)) (new-field readField 0 (read-none v there brood)) (R .standing .read);
+            parents = parent-expanding M P B K n there waits (old-field parentField (omega arith) (λ e. omega arith) (λ e. omega arith)) (new-field parentField n (parent-is v there brood)) (R .parents);
+            settled = settled-expanding M P B K n there waits (T .mended);
+            hints = hint-expanding M P B K n there waits (λ l. omega arith) (old-field (hintField m) (omega (arith, variables-some v)) (λ e. omega arith) (λ e. omega arith))
+                (new-field (hintField m) 0 (hint-none v there brood)) (T .hints);
+            covering = reach-expanding M P B K n there waits (R .covering);
+            marked = mark-expanding M P B K n there waits (T .marked)
+                (λ i l z. let a = none-set marks n i (in-marks (expand n) R there) z in (a .1, a .0))
+                (λ i l. marked-alone T i (λ e. omega arith)) (λ i l. marked-alone T i (λ e. omega arith));
+            next = next-expanding M P B K n there waits (omega arith) (T .next);
+          })
+          (record {
+            grows = omega arith;
+            window = (omega arith, omega (arith, there), omega (arith, there));
+            fresh = omega (arith, there, K .few);
+            bounds = (parent-low, λ x. omega (arith, R .bounds .1 x));
+            rows = (omega (arith, R .rows .0, length-set marks n 1), R .rows .1);
+          })
+          (stays-both (stays-wide (omega arith) (brood .stays))
+          (stays-both (put-stays (variableCount m) new n kindField 1 (omega arith) (w .nodes + born) (omega (arith, there)))
+          (put-stays (variableCount m) (putIn (variableCount m) new n kindField 1) n childField (w .nodes) (omega arith) (w .nodes + born) (omega (arith, there)))))
+
+      -- With the numbers that the code has worked out.
+      module _ {vars size b e : ℕ} (p : vars ≡ variableCount m) (s : size ≡ nodeSize vars) (x : b ≡ born) (y : e ≡ bytes) where
+        pub expanded-as : {w′ : Work} {last : List ℕ} → Numbers w′ (w .nodes + b) (w .len + (size * b + e)) n n (n + 1) n → last ≡ expandedIn vars new n (w .nodes)
+            → Made m masks longest w nb (some (expand n)) w′ last (set marks n 1) reaches
+        expanded-as N h = made-as (rw (s, p, x, y) at N) (h ∙ ap (λ (z : ℕ). expandedIn z new n (w .nodes)) p) expanded

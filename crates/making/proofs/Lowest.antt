@@ -1,7 +1,7 @@
 -- A node that is covered next is covered by the lowest that can cover it.
 -- Assumes nothing.
-use Prim.Native.Nat.{ℕ, zero, suc, _<_, _≤_}
-use mathlib.Core.Path.{_≡_, refl, sym, ap, _∙_, subst}
+use Prim.Native.Nat.{ℕ, zero, suc, _<_}
+use mathlib.Core.Path.{_≡_, refl, sym, ap, _∙_}
 use mathlib.Core.Logic.{⊎-elim}
 use mathlib.Core.Bool.{Bool, true, false}
 use mathlib.Core.Option.{Option, none, some}
@@ -12,7 +12,7 @@ use Rattle.expressions.specs.Meaning.{truthIn}
 use Rattle.model.specs.Model.{Model}
 use Rattle.building.specs.First.{_orelse_, given, onward, first}
 use Rattle.building.specs.Building.{Building}
-use Rattle.building.specs.Moves.{Move, Limit, coverBy, reach, expand, repair, room, canCover, lowestWaiting, lowestCover, opening, growth, nextMove}
+use Rattle.building.specs.Moves.{Limit, coverBy, reach, expand, repair, room, canCover, lowestWaiting, lowestCover, opening, growth, nextMove}
 use Rattle.building.specs.Kept.{Mended}
 use Rattle.building.proofs.FirstLaws.{nothing, orelse-some, onward-some, first-none, first-some, given-some}
 

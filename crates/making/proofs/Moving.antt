@@ -2,6 +2,7 @@
 -- Assumes nothing.
 use Prim.Native.Nat.{ℕ, _+_, _*_, _<_, _≤_, max}
 use mathlib.Core.Path.{_≡_, sym, ap, _∙_, subst, transport}
+use mathlib.Core.Bool.{true, false≢true}
 use mathlib.Core.Option.{Option, some}
 use mathlib.Core.List.{List}
 use native.Mathlib.Omega.{arith}
@@ -13,6 +14,7 @@ use Rattle.model.specs.Model.{Model, modelOf}
 use Rattle.model.specs.Valid.{Valid}
 use Rattle.graph.specs.Limits.{leastBytes, mostNodes}
 use Rattle.graph.specs.Simulation.{nodeSize}
+use Rattle.building.specs.First.{there}
 use Rattle.building.specs.Building.{Building, births}
 use Rattle.building.specs.Length.{graphLength, lengthWith}
 use Rattle.building.specs.Moves.{Limit, Move, track, adopt, drop, coverBy, reach, expand, apply, nextMove}
@@ -26,6 +28,9 @@ use Rattle.building.proofs.Short.{short-kept}
 use Rattle.put.specs.Put.{Stays}
 use Rattle.held.specs.Held.{fieldCount, putIn, Whole}
 use Rattle.held.proofs.FieldLaws.{record-at, whole-at, put-within}
+use Rattle.nodes.specs.Told.{told}
+use Rattle.nodes.specs.declared.Move.{Move as Found}
+use Rattle.nodes.specs.declared.Move.the-variants.{Nothing}
 use Rattle.wants.specs.Standing.{readIn, parentIn, hintIn, rowIn}
 use Rattle.work.specs.Working.{limitOf, graphIn, Ready, Made}
 use Rattle.work.specs.declared.Work.{Work}
@@ -39,7 +44,7 @@ stays-wide h s = record { long = s .long; below = λ j l. absurd (omega arith); 
 
 -- In the record of a node that is counted.
 pub put-stays : (vars : ℕ) (nb : List ℕ) (n f u : ℕ) → f < fieldCount vars → (nodes : ℕ) → n < nodes → Stays 0 (nodeSize vars * nodes) nb (putIn vars nb n f u)
-put-stays vars nb n f u l nodes there = stays-wide (record-at (nodeSize vars) n nodes there) (put-within vars nb n f u l)
+put-stays vars nb n f u l nodes h = stays-wide (record-at (nodeSize vars) n nodes h) (put-within vars nb n f u l)
 
 -- ---- the numbers after a move
 pub record Numbers (w : Work) (nodes len fresh low high next : ℕ) : Type 0 where
@@ -131,21 +136,21 @@ module _ {m masks : List ℕ} {longest : ℕ} {w : Work} {nb marks reaches : Lis
   told-of = given mv apt
 
   -- What the code asks of a node that is counted.
-  module _ {n : ℕ} (there : n < w .nodes) where
+  module _ {n : ℕ} (l : n < w .nodes) where
     pub in-field : n < fieldLimit
-    in-field = omega (arith, there, keeps .few)
+    in-field = omega (arith, l, keeps .few)
 
     pub in-marks : n < length marks
-    in-marks = omega (arith, there, keeps .few, R .rows)
+    in-marks = omega (arith, l, keeps .few, R .rows)
 
     pub in-reaches : n < length reaches
-    in-reaches = omega (arith, there, keeps .few, R .rows)
+    in-reaches = omega (arith, l, keeps .few, R .rows)
 
     pub reach-fits : (c : ℕ) {u x : ℕ} → u ≡ max x (n + 1) → x ≡ rowIn reaches c → u < fieldLimit
-    reach-fits c e q = omega (arith, there, keeps .few, R .bounds .1 c)
+    reach-fits c e q = omega (arith, l, keeps .few, R .bounds .1 c)
 
     pub record-there : {vars : ℕ} → vars ≡ variableCount m → Whole vars nb n
-    record-there e = subst (λ (v : ℕ). Whole v nb n) (sym e) (whole-at (variableCount m) nb n (w .nodes) there (R .standing .held .long))
+    record-there e = subst (λ (v : ℕ). Whole v nb n) (sym e) (whole-at (variableCount m) nb n (w .nodes) l (R .standing .held .long))
 
   after-kept : Kept M mostNodes (apply M mv B)
   after-kept = kept M P (valid .model) B keeps mv apt
@@ -192,3 +197,13 @@ module _ {m masks : List ℕ} {longest : ℕ} {w : Work} {nb marks reaches : Lis
         grows = h .grows;
         stays = s;
       }
+
+-- ---- the move that the code was told
+pub ready-by : {m masks : List ℕ} {longest : ℕ} {w : Work} {nb marks reaches : List ℕ} {found is : Found} → found ≡ is → Ready m masks longest w nb marks reaches (told found) → Ready m masks longest w nb marks reaches (told is)
+ready-by {m} {masks} {longest} {w} {nb} {marks} {reaches} e h = subst (λ (f : Found). Ready m masks longest w nb marks reaches (told f)) e h
+
+pub made-by : {m masks : List ℕ} {longest : ℕ} {w w′ : Work} {nb nb′ marks′ reaches′ : List ℕ} {found is : Found} → found ≡ is → Made m masks longest w nb (told is) w′ nb′ marks′ reaches′ → Made m masks longest w nb (told found) w′ nb′ marks′ reaches′
+made-by {m} {masks} {longest} {w} {w′} {nb} {nb′} {marks′} {reaches′} e h = subst (λ (f : Found). Made m masks longest w nb (told f) w′ nb′ marks′ reaches′) (sym e) h
+
+pub nothing-told : {found : Found} {A : Type 0} → found ≡ Nothing → there (told found) ≡ true → A
+nothing-told e h = absurd (false≢true (ap (λ (f : Found). there (told f)) (sym e) ∙ h))

@@ -9,7 +9,7 @@ use native.Mathlib.Decide.{ℕ-discrete}
 use native.Mathlib.Omega.{arith}
 use borrow.Author.Tests.{eq-eqb, ne-eqb}
 use lib.Dec.{eqb}
-use lib.ListN.{length, getD}
+use lib.ListN.{length}
 use lib.Pow.{pow-lt}
 use Rattle.mdp.specs.Kinds.{Kind}
 use Rattle.folder.specs.Pick.{pick}
@@ -111,9 +111,11 @@ module _ {m masks : List ℕ} {longest : ℕ} {w : Work} {nb marks reaches : Lis
   module _ (T : ToRepair m w nb marks n) (near : (i : ℕ) → Clear M B n i → OutOfReach M B i mv) {marks′ : List ℕ} (G : MarkedReach (variableCount m) new n (parentIn m new n) (rowIn reaches n) marks marks′) where
     unmarked : (i : ℕ) → i < w .nodes → rowIn marks′ i ≡ 0 → Clear M B n i × (rowIn marks i ≡ 0)
     unmarked i l z =
-        let a = G .unmarked i z in
-        (clear-by M B n i (R .parents) l (a .1) (λ e. a .2 (e ∙ ap (λ (f : ℕ → ℕ). f n) (sym parent-same)))
-        (λ k c. false≢true (sym (a .3 (subst (λ (x : ℕ). i < rowIn reaches x) c (R .covering .is i l k))) ∙ under-seen i l k c)), a .0)
+        let a = G .unmarked i z in (
+          clear-by M B n i (R .parents) l (a .1) (λ e. a .2 (e ∙ ap (λ (f : ℕ → ℕ). f n) (sym parent-same)))
+              (λ k c. false≢true (sym (a .3 (subst (λ (x : ℕ). i < rowIn reaches x) c (R .covering .is i l k))) ∙ under-seen i l k c)),
+          a .0,
+        )
 
     grown-marked : apply M mv B .nodes ≡ w .nodes
         → MarkRight M (apply M mv B) (rowIn marks′) (pick (eqb (rowIn reaches n) 0) (min n (parentIn m new n)) 0) (max (w .high) (max (max n (parentIn m new n) + 1) (rowIn reaches n)))

@@ -83,7 +83,11 @@ fn grow_label(m: &[u8], nb: &[u8], marks: &mut [u8], reaches: &[u16], w: Work, n
     let parent = folder::field(graph::node_size(vars), nb, n, PARENT);
     let end = wide(reaches[n]);
     mark_reach(vars, nb, n, parent, end, marks);
-    let low = if end == 0 { work::smaller(n, parent) } else { 0 };
+    let low = if end == 0 {
+        work::smaller(n, parent)
+    } else {
+        0
+    };
     let high = work::larger(work::larger(n, parent) + 1, end);
     Work {
         nodes: w.nodes,

@@ -89,6 +89,7 @@ pub fn dead_end_at_first() -> ModelData {
 /// - 5: (1,0,1), the child of 3, has another b. It is expanded, and tracks the phase alone.
 /// - 6: (3,0,0), the child of 4, asks for a, and so does 1: it cannot cover 2 any more, but
 ///   5 can.
+/// - 7: (2,0,1), the child of 5, asks for b in turn, so that 2 drops out again.
 pub fn covered_by_a_higher() -> ModelData {
     let mut entries = Entries(Builder::new(3, vec![[0, 4, 0], [0, 1, 0], [0, 1, 0]]));
     let phases: Vec<u16> = (0..5).map(|phase| entries.variable_is(0, phase)).collect();
@@ -98,8 +99,8 @@ pub fn covered_by_a_higher() -> ModelData {
     let branches = [[one, zero, zero], [one, one, zero], [four, zero, one]];
     entries.command(phases[0], branches.map(|state| (1, state.to_vec())).to_vec());
     let not_b = entries.not(b);
-    let in_2 = entries.and(phases[2], not_b);
-    for (guard, next) in [(phases[1], 2), (in_2, 3), (phases[4], 1)] {
+    let with = [b, not_b].map(|b| entries.and(phases[2], b));
+    for (guard, next) in [(phases[1], 2), (with[0], 3), (with[1], 3), (phases[4], 1)] {
         let state = entries.changed(&[(0, numbers[next])]);
         entries.command(guard, vec![(3, state)]);
     }
@@ -129,6 +130,11 @@ struct Plan {
     /// In so many phases, the first ones, branches are many, set what is carried and ask for
     /// nothing.
     fans: i16,
+    /// From these, half of the branches go through up to so many phases more, by which they
+    /// come later to where the others go.
+    detours: i16,
+    /// Whether every later phase has two commands alone, of which one or the other is enabled.
+    forks: bool,
     /// Commands of a phase, branches of a command: no more than these.
     commands: usize,
     branches: usize,
@@ -144,12 +150,21 @@ impl Plan {
         Plan {
             phases: random.between(2, 6) as i16,
             fans: random.between(0, 2) as i16,
+            detours: random.between(0, 3) as i16,
+            forks: random.once_in(4),
             commands: random.pick(&[1, 1, 2, 3]),
             branches: random.pick(&[1, 2, 3, 3]),
             asks: random.pick(&[1, 2, 3, 6]),
             changes: random.pick(&[2, 3, 5, 12, 100]),
             leaps: random.pick(&[3, 6, 20]),
         }
+    }
+
+    /// One fan, and from then on one phase after the other asks for something.
+    fn asking(random: &mut Random) -> Plan {
+        let (phases, detours) = (random.between(3, 5) as i16, random.between(1, 3) as i16);
+        let (changes, leaps) = (random.pick(&[8, 100]), random.pick(&[10, 100]));
+        Plan { phases, fans: 1, detours, forks: true, branches: 1, changes, leaps, ..Plan::any(random) }
     }
 }
 
@@ -228,9 +243,26 @@ impl Phased<'_> {
     }
 
     fn next_phase(&mut self, phase: i16) -> u16 {
-        let any = self.random.between(0, self.plan.phases.into()) as i16;
-        let next = if self.random.once_in(self.plan.leaps) { any } else { phase + 1 };
+        let Plan { phases, fans, detours, leaps, .. } = self.plan;
+        let next = if phase < fans && detours > 0 && self.random.once_in(2) {
+            phases + self.random.between(1, detours.into()) as i16
+        } else if self.random.once_in(leaps) {
+            self.random.between(0, phases.into()) as i16
+        } else {
+            phase + 1
+        };
         self.entries.constant(next)
+    }
+
+    /// From one phase of a detour to the one below, and from the lowest to where the last fan
+    /// leads.
+    fn detour(&mut self, phase: i16) {
+        let Plan { phases, fans, .. } = self.plan;
+        let next = if phase == phases + 1 { fans } else { phase - 1 };
+        let (guard, next) = (self.entries.variable_is(self.phase, phase), self.entries.constant(next));
+        let state = self.entries.changed(&[(self.phase, next)]);
+        let total = self.entries.0.model.total;
+        self.entries.command(guard, vec![(total, state)]);
     }
 
     /// A new value for a variable that is carried.
@@ -273,8 +305,26 @@ impl Phased<'_> {
         state
     }
 
-    fn command(&mut self, phase: i16) {
-        let guard = self.guard(phase);
+    /// By something that is carried one command is enabled or the other; both go on.
+    fn fork(&mut self, phase: i16) {
+        let (here, asked) = (self.entries.variable_is(self.phase, phase), self.compared());
+        for asked in [asked, self.entries.not(asked)] {
+            let guard = self.entries.and(here, asked);
+            self.command(phase, guard);
+        }
+    }
+
+    fn commands(&mut self, phase: i16) {
+        if self.plan.forks && phase >= self.plan.fans {
+            return self.fork(phase);
+        }
+        for _ in 0..1 + self.random.below(self.plan.commands) {
+            let guard = self.guard(phase);
+            self.command(phase, guard);
+        }
+    }
+
+    fn command(&mut self, phase: i16, guard: u16) {
         let total = self.entries.0.model.total;
         let most = if phase < self.plan.fans { 6 } else { self.plan.branches };
         let count = 1 + self.random.below(most.min(total.into()));
@@ -285,9 +335,10 @@ impl Phased<'_> {
 
     fn finish(mut self) -> ModelData {
         for phase in 0..self.plan.phases {
-            for _ in 0..1 + self.random.below(self.plan.commands) {
-                self.command(phase);
-            }
+            self.commands(phase);
+        }
+        for phase in 1..=self.plan.detours {
+            self.detour(self.plan.phases + phase);
         }
         let at_end = self.entries.variable_is(self.phase, self.plan.phases);
         let asked = self.asked();
@@ -303,16 +354,15 @@ impl Phased<'_> {
 
 fn carried(random: &mut Random) -> [i16; 3] {
     let low = random.between(-2, 1) as i16;
-    let high = low + random.pick(&[0, 1, 1, 1, 2, 3, 5, 4_096]);
+    let high = low + random.pick(&[0, 1, 1, 1, 2, 3, 5, 4_095, 4_096]);
     [low, high, random.between(low.into(), high.into()) as i16]
 }
 
-fn phased(random: &mut Random) -> ModelData {
-    let plan = Plan::any(random);
+fn phased(random: &mut Random, plan: Plan) -> ModelData {
     let others = 1 + random.below(5);
     let phase = random.below(others + 1);
     let mut variables: Vec<[i16; 3]> = (0..others).map(|_| carried(random)).collect();
-    variables.insert(phase, [0, plan.phases, 0]);
+    variables.insert(phase, [0, plan.phases + plan.detours, 0]);
     let entries = Entries(Builder::new(random.pick(&[1, 2, 3, 7, 10, 1_000, u16::MAX]), variables));
     Phased { random, plan, entries, phase: phase as u16 }.finish()
 }
@@ -328,6 +378,13 @@ pub fn model(random: &mut Random) -> ModelData {
             let shape = Shape::any(random);
             models::model(random, &shape)
         }
-        _ => phased(random),
+        2..=4 => {
+            let plan = Plan::asking(random);
+            phased(random, plan)
+        }
+        _ => {
+            let plan = Plan::any(random);
+            phased(random, plan)
+        }
     }
 }

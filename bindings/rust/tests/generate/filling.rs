@@ -9,6 +9,7 @@ use super::random::Random;
 use super::readings::Entries;
 
 /// A model that is built as far as the nodes reach.
+#[derive(Clone)]
 pub struct Filling {
     pub name: &'static str,
     pub model: ModelData,
@@ -235,7 +236,8 @@ fn at_random(most: i16, seed: u64) -> ModelData {
     let variables = 8;
     let mut entries = Entries(Builder::new(8, vec![[0, most, 0]; variables]));
     let each = 0..variables as u16;
-    let is: Vec<u16> = each.flat_map(|v| (0..=most).map(move |c| (v, c))).map(|(v, c)| entries.variable_is(v, c)).collect();
+    let is: Vec<u16> =
+        each.flat_map(|v| (0..=most).map(move |c| (v, c))).map(|(v, c)| entries.variable_is(v, c)).collect();
     for _ in 0..10 {
         let guard = any_guard(&mut entries, &mut random, &is);
         let count = 1 + random.below(3) as u16;
@@ -411,7 +413,8 @@ fn converters(count: u16, old: i16) -> ModelData {
         let states = states.map(|(weight, changes)| (weight, entries.changed(&changes)));
         entries.command(guard, states.to_vec());
         let guard = entries.and(here, is_dead);
-        let states = [(900, vec![(0, next), (age, older)]), (100, vec![(0, next), (age, zero), (dead, zero)])];
+        let states =
+            [(900, vec![(0, next), (age, older)]), (100, vec![(0, next), (age, zero), (dead, zero)])];
         let states = states.map(|(weight, changes)| (weight, entries.changed(&changes)));
         entries.command(guard, states.to_vec());
         shown.push(entries.variable_is(age, old));

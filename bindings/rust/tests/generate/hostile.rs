@@ -288,9 +288,8 @@ pub fn chain_of_one_set() -> ModelData {
         pieces.push(maker.piece(&(1..=12).collect::<Vec<_>>(), entries, 2));
     }
     let next = |k: usize| pieces[k % pieces.len()];
-    let numbers: Vec<u16> = (0..CHAIN_ASKED)
-        .map(|k| maker.put([7, next(k).truth, next(k + 1).zero, next(k + 2).zero]))
-        .collect();
+    let numbers: Vec<u16> =
+        (0..CHAIN_ASKED).map(|k| maker.put([7, next(k).truth, next(k + 1).zero, next(k + 2).zero])).collect();
     maker.finish_chain(&numbers)
 }
 

@@ -12,16 +12,34 @@ const TABLE: usize = *GRAPH_BYTES.start();
 /// What is done while a graph is built, one after the other.
 #[derive(Clone, Copy, Debug, PartialEq, Eq)]
 pub enum Move {
-    Covered { node: usize, cover: usize },
-    Target { node: usize },
+    Covered {
+        node: usize,
+        cover: usize,
+    },
+    Target {
+        node: usize,
+    },
     /// The graph has this length from then on.
-    Expanded { node: usize, length: usize },
+    Expanded {
+        node: usize,
+        length: usize,
+    },
     /// The variables of a set are tracked, for the sake of a rule.
-    Tracked { node: usize, rule: u32, set: u16 },
-    Dropped { node: usize },
+    Tracked {
+        node: usize,
+        rule: u32,
+        set: u16,
+    },
+    Dropped {
+        node: usize,
+    },
     /// Nothing is done any more: by the next expansion the graph would have so many nodes
     /// and this length.
-    Ended { node: usize, nodes: usize, length: usize },
+    Ended {
+        node: usize,
+        nodes: usize,
+        length: usize,
+    },
 }
 
 /// The edges of a node to be expanded: a command, and the state that each branch gives.
@@ -167,9 +185,8 @@ impl<'a> Building<'a> {
     /// The lowest-numbered expanded or target node whose label contains the node's state.
     fn cover_for(&self, node: usize) -> Option<usize> {
         let state = &self.node(node).concrete;
-        let covers = |cover: &Node| {
-            matches!(cover.kind, Kind::Expanded | Kind::Target) && cover.contains(state)
-        };
+        let covers =
+            |cover: &Node| matches!(cover.kind, Kind::Expanded | Kind::Target) && cover.contains(state);
         self.graph.nodes.iter().position(covers)
     }
 

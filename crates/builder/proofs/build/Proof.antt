@@ -2,6 +2,7 @@ use mathlib.Core.Path.{refl, ap, _∙_}
 use Prim.Native.Nat.{ℕ, _+_}
 use Rattle.graph.specs.Limits.{leastBytes}
 use Rattle.builder.proofs.Start.{zeros-blank, masks-asked, masks-filled, root-asked, started, all-stays}
+use denote.Ref.{now}
 use borrow.Author.Needs.{needs}
 use Rattle.builder.proofs.build.Statement.{statement}
 use Rattle.builder.proofs.build.Tie as tie
@@ -13,7 +14,7 @@ fill-mentions-requires : tie.Need-fill-mentions-requires
 fill-mentions-requires c κs = masks-asked (c .before .before .before .before .before .pre .0) (c .before .body .ensures)
 
 put-root-requires : tie.Need-put-root-requires
-put-root-requires c κs = root-asked (c .before .before .before .before .before .before .before .before .before .pre .0) (c .before .before .before .before .before .before .variable-count .ensures .0) _ (c .before .before .before .before .before .before .before .before .before .pre .1 .0) (c .before .before .before .before .before .before .before .before .before .pre .1 .1)
+put-root-requires c κs = root-asked (c .before .before .before .before .before .before .before .before .before .pre .0) (c .before .before .before .before .before .before .variable-count .ensures .0) (now (c .before .before .before .before .before .before .before .before .before .args .nb)) (c .before .before .before .before .before .before .before .before .before .pre .1 .0) (c .before .before .before .before .before .before .before .before .before .pre .1 .1)
 
 grow-requires : tie.Need-grow-requires
 grow-requires c κs =

@@ -1,4 +1,3 @@
-
 use mathlib.Core.Path.{refl}
 use mathlib.Core.Logic.{⊎-elim}
 use native.Mathlib.Omega.{arith}
@@ -18,15 +17,17 @@ mark-reach-requires c κs =
 returns : tie.Need-returns
 returns c =
     let e = field-read _ _ _ parentField (c .before .before .before .before .before .before .before .before .before .before .before .before .variable-count .ensures .0) (c .before .before .before .before .before .before .before .before .before .before .before .node-size .ensures .0) (c .before .before .before .before .before .before .before .before .before .before .field .ensures .0) in
-    let q = c .before .before .before .before .before .before .before .before .wide .ensures in
-    (reach-as (c .before .before .before .before .before .before .before .before .before .before .before .before .variable-count .ensures .0) e q (c .before .before .before .before .before .before .mark-reach .ensures), record {
-      nodes = refl;
-      len = refl;
-      fresh = refl;
-      next = refl;
-      low = ⊎-elim (λ w. low-alone q _ (w .0 .taken) e (w .1 .ensures) (w .2)) (λ w. low-all q _ (w .0 .left) (w .1)) (c .before .before .before .if1 .came);
-      high = omega (arith, e, q, c .before .before .larger .ensures, c .before .larger2 .ensures, c .larger3 .ensures);
-    })
+    let q = c .before .before .before .before .before .before .before .before .wide .ensures in (
+      reach-as (c .before .before .before .before .before .before .before .before .before .before .before .before .variable-count .ensures .0) e q (c .before .before .before .before .before .before .mark-reach .ensures),
+      record {
+        nodes = refl;
+        len = refl;
+        fresh = refl;
+        next = refl;
+        low = ⊎-elim (λ w. low-alone q _ (w .0 .taken) e (w .1 .ensures) (w .2)) (λ w. low-all q _ (w .0 .left) (w .1)) (c .before .before .before .if1 .came);
+        high = omega (arith, e, q, c .before .before .larger .ensures, c .before .larger2 .ensures, c .larger3 .ensures);
+      },
+    )
 
 pub grow-label-spec : {M : Type 1} → statement M
 grow-label-spec = tie.close (tie.spec (λ c κs. search needs) (λ c κs. search needs) (λ c κs. search needs) (λ c. search needs) (λ c. search needs) (λ c κs. search needs) mark-reach-requires (λ c κs. search needs) (λ c κs. search needs) (λ c. search needs) (λ c κs. search needs) (λ c κs. search needs) (λ c. search needs) returns)

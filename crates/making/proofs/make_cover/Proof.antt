@@ -3,7 +3,7 @@ use mathlib.Core.Path.{ap, _∙_}
 use native.Mathlib.Omega.{arith}
 use Rattle.building.specs.Moves.{Move, coverBy}
 use Rattle.held.specs.Held.{putIn}
-use Rattle.held.proofs.Made.{becomeIn, become-long}
+use Rattle.held.proofs.Made.{becomeIn}
 use Rattle.nodes.proofs.Expanded.{variables-some}
 use Rattle.making.proofs.Moving.{valid, told-of, in-field, in-marks, in-reaches, reach-fits, record-there, made-as, numbers}
 use Rattle.making.proofs.Becoming.{covered-by}
@@ -24,8 +24,7 @@ put-field-requires : tie.Need-put-field-requires
 put-field-requires c κs =
     let s = c .before .before .before .before .before .before .before .before .before .before .before in
     let g = told-of (move s) (s .pre) in
-    let e = c .before .before .before .before .before .variable-count .ensures .0 in
-    (
+    let e = c .before .before .before .before .before .variable-count .ensures .0 in (
       (c .before .before .before .before .before .variable-count .ensures .1, omega (arith, in-field (move s) (s .pre) (g .0)), omega (arith, e, variables-some (valid (move s) (s .pre))), in-field (move s) (s .pre) (g .2)),
       omega (arith, record-there (move s) (s .pre) (g .0) e, c .before .before .nb .given),
     )

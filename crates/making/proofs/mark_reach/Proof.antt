@@ -1,4 +1,3 @@
-use Rattle.making.specs.Marking.{MarkedReach}
 use Rattle.making.proofs.Marks.{reach-marked}
 use borrow.Author.Needs.{needs}
 use Rattle.making.proofs.mark_reach.Statement.{statement}

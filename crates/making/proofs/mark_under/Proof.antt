@@ -1,5 +1,4 @@
 use Prim.Native.Nat.{_-_, _≤_}
-use lib.ListN.{length}
 use native.Mathlib.Omega.{arith}
 use Rattle.making.specs.Marking.{MarkedUnder}
 use Rattle.making.proofs.Marks.{under-start, under-next, under-over}
