@@ -65,7 +65,7 @@ class Built(NamedTuple):
     def values(self):
         """The same, as JSON has it."""
         told = {"bytes": len(self.data), **self.counts, "root": self.summary.root}
-        return {**told, "rounds": self.asked.rounds, "settled": self.settled}
+        return {**told, "rounds": self.asked.rounds, "settled": self.settled, "endless": self.endless}
 
 
 def asked_for(rounds, nodes):

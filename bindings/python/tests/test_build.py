@@ -111,10 +111,12 @@ class Build(Building):
         self.assertEqual(len(data.pop("notes")), 2)
         counts = {"nodes": 8, "expanded": 4, "covered": 3, "target": 1, "waiting": 0}
         due = {"answer": "done", "file": fold, "bytes": 228, **counts, "root": 183_160_503, "rounds": 1000}
-        self.assertEqual(data, {**due, "settled": False})
+        self.assertEqual(data, {**due, "settled": False, "endless": []})
         data = json.loads(self.built("--json", "-q", folder, "--rounds", "0", "--nodes", "3")[0])
         self.assertEqual((data["nodes"], data["waiting"], data["rounds"], data["notes"]), (1, 1, 0, []))
         self.assertEqual(self.built("--json", folder)[1], "")
+        data = json.loads(self.built("--json", self.model(example("mixer")[0], "mixer"))[0])
+        self.assertEqual((data["settled"], data["endless"], len(data["notes"])), (True, [0, 1], 2))
         data = json.loads(run("build", "--json", folder, "--rounds", "1001")[1])
         self.assertEqual([data[key] for key in ("answer", "number", "place", "second")], ["refused", 35, 1, 0])
         self.path("m/model.fold", b"")
@@ -277,7 +279,7 @@ class Notes(Building):
         self.assert_told(["1 node waits and counts as certainty"], self.notes(LOOP, "--nodes", "1"))
         yet = "another round lowers values yet"
         self.assert_told([wait, yet], self.notes(example("pedal")[0], "--nodes", "5", "--rounds", "0"))
-        self.assert_told(["nodes wait", "from node 0"], self.notes(example("mixer")[0], "--nodes", "6"))
+        self.assert_told(["nodes wait", "from node 0"], self.notes(example("scan_loop")[0], "--nodes", "14"))
 
     def test_a_bound_though_nodes_wait(self):
         """A safe part of the model is built, an unlikely one waits: the root value is its chance."""

@@ -83,10 +83,13 @@ fn dropped(middle: i16, per: i16) -> ModelData {
     entries.0.model
 }
 
-/// Two variables, a phase and a number: each of the first phases multiplies the number by so
-/// many and adds less than that, so that all nodes of a phase have numbers of their own.
+/// The first variable is a phase, the last a number: each of the first phases multiplies it by
+/// so many and adds less than that, so that all nodes of a phase have numbers of their own.
+/// Others stand between the two, and are 0.
 struct Numbered {
     entries: Entries,
+    /// The last variable.
+    carried: u16,
     numbers: Vec<u16>,
 }
 
@@ -96,28 +99,32 @@ const TOP: i16 = BOUND;
 const MOST_FACTOR: i16 = 65;
 
 impl Numbered {
-    fn new(phases: i16) -> Numbered {
-        let mut entries = Entries(Builder::new(64, vec![[0, phases - 1, 0], [0, TOP, 0]]));
+    fn new(phases: i16, others: u16) -> Numbered {
+        let mut ranges = vec![[0, 1, 0]; usize::from(others) + 2];
+        ranges[0] = [0, phases - 1, 0];
+        ranges[usize::from(others) + 1] = [0, TOP, 0];
+        let mut entries = Entries(Builder::new(64, ranges));
         let numbers = (0..=MOST_FACTOR).map(|c| entries.constant(c)).collect();
-        Numbered { entries, numbers }
+        Numbered { entries, carried: others + 1, numbers }
     }
 
     /// In a phase, by a guard that asks for the number.
     fn guard(&mut self, phase: i16) -> u16 {
-        let (here, number) = (self.entries.variable_is(0, phase), self.entries.variable(1));
+        let (here, number) = (self.entries.variable_is(0, phase), self.entries.variable(self.carried));
         let any = self.entries.put([10, self.numbers[0], number, 0]);
         self.entries.and(here, any)
     }
 
     /// The phase leads to so many nodes for each of its own, in the phase that an entry says.
     fn multiply(&mut self, phase: i16, by: i16, next: u16) {
-        let entries = &mut self.entries;
-        let (number, least) = (entries.variable(1), entries.constant(TOP / by - 1));
+        let (entries, carried) = (&mut self.entries, self.carried);
+        let (number, least) = (entries.variable(carried), entries.constant(TOP / by - 1));
         let held = entries.put([5, number, least, 0]);
         let product = entries.put([4, held, self.numbers[by as usize], 0]);
         let state = |entries: &mut Entries, k: i16| {
             let sum = entries.add(product, self.numbers[k as usize]);
-            vec![next, entries.fit(sum, 1)]
+            let sum = entries.fit(sum, carried);
+            entries.changed(&[(0, next), (carried, sum)])
         };
         let states = (0..by).map(|k| state(entries, k)).collect();
         let guard = self.guard(phase);
@@ -132,14 +139,15 @@ impl Numbered {
         }
     }
 
-    /// The phase leads to another that has the same number, and that one asks for it.
+    /// The phase leads to another that has the same number, and that one asks for all variables,
+    /// one after the other, the number last.
     fn ask_after(&mut self, phase: i16, next: i16) {
         let entries = &mut self.entries;
         let here = entries.variable_is(0, phase);
         let state = entries.changed(&[(0, self.numbers[next as usize])]);
         spread(entries, here, vec![state]);
-        let (there, is_top) = (entries.variable_is(0, next), entries.variable_is(1, TOP));
-        let asked = entries.and(there, is_top);
+        let (there, highest) = (entries.variable_is(0, next), any_highest(entries, 1));
+        let asked = entries.and(there, highest);
         let unchanged = entries.unchanged();
         spread(entries, asked, vec![unchanged]);
     }
@@ -153,15 +161,17 @@ impl Numbered {
 /// A tree of dead ends: every node of a phase leads to so many of the next. All nodes of the
 /// last phase but one are covered.
 pub fn tree(factors: &[i16]) -> ModelData {
-    let mut numbered = Numbered::new(factors.len() as i16 + 1);
+    let mut numbered = Numbered::new(factors.len() as i16 + 1, 0);
     numbered.multiply_all(factors);
     numbered.finish()
 }
 
-/// The same with one number that is carried; the nodes that are alike come about in steps.
-fn dropped_by_number(factors: &[i16]) -> ModelData {
+/// As `dropped`, with one number that is carried; the nodes that are alike come about in
+/// steps. Whoever asks for the number asks for so many others before it, one after the
+/// other, and by each of these all covered nodes are looked at again.
+fn dropped_by_number(factors: &[i16], others: u16) -> ModelData {
     let last = factors.len() as i16;
-    let mut numbered = Numbered::new(last + 2);
+    let mut numbered = Numbered::new(last + 2, others);
     numbered.multiply_all(factors);
     numbered.ask_after(last, last + 1);
     numbered.finish()
@@ -171,8 +181,8 @@ fn dropped_by_number(factors: &[i16]) -> ModelData {
 /// `half`. They are dropped in turns.
 fn dropped_in_turns(factors: &[i16], half: i16) -> ModelData {
     let last = factors.len() as i16;
-    let mut numbered = Numbered::new(last + 4);
-    let (number, half) = (numbered.entries.variable(1), numbered.entries.constant(half));
+    let mut numbered = Numbered::new(last + 4, 0);
+    let (number, half) = (numbered.entries.variable(numbered.carried), numbered.entries.constant(half));
     let low = numbered.entries.put([9, number, half, 0]);
     let families = [numbered.numbers[last as usize], numbered.numbers[last as usize + 1]];
     let family = numbered.entries.put([7, low, families[0], families[1]]);
@@ -432,7 +442,8 @@ pub fn hostile() -> Vec<Filling> {
     vec![
         named("dropped, from 3 nodes", dropped(3, 57)),
         named("dropped, from 2 nodes", dropped(2, 60)),
-        named("dropped by a number", dropped_by_number(&[13, 14, 15])),
+        named("dropped by a number", dropped_by_number(&[13, 14, 15], 0)),
+        named("dropped by a number, 14 variables before it", dropped_by_number(&[13, 14, 15], 14)),
         named("dropped in turns", dropped_in_turns(&[13, 14, 15], 1_365)),
         named("a chain, 16 variables asked at its end", chain(4_095, MOST_VARIABLES, false)),
         named("a chain that covers beside it", chain(2_047, MOST_VARIABLES, true)),
