@@ -5,8 +5,9 @@ that wait.
 
   explore.py DIR [ROUNDS]    reads DIR/model.fold and writes DIR/graph.fold; values come of at most ROUNDS rounds (1000)
 
-It is an example of how a graph comes about. Nothing of it is proved and nothing need be: `laguipy DIR` checks what it
-wrote. It needs Python's package laguipy: PYTHONPATH=bindings/python in a checkout.
+It is an example of an explorer of one's own; `laguipy build` makes graphs that track less and cover more. Nothing of it
+is proved and nothing need be: `laguipy DIR` checks what it wrote. It needs Python's package laguipy:
+PYTHONPATH=bindings/python in a checkout.
 """
 import os
 import struct

@@ -4,6 +4,8 @@
 //! ```text
 //! cargo run --release --offline --example bench
 //! ```
+//!
+//! With `-- building`, the builder alone.
 
 #[path = "../tests/generate/mod.rs"]
 mod generate;
@@ -11,11 +13,13 @@ mod generate;
 mod reference;
 
 use generate::data::*;
+use generate::filling::{self, Filling};
 use generate::hostile::{self, Hostile};
 use generate::large::{deep_check, figures, Large};
 use generate::limits::plain;
 use generate::random::Random;
 use generate::states::{one_hash, one_slot, spread, Crowd};
+use laguipy::Refusal;
 use std::hint::black_box;
 use std::time::{Duration, Instant};
 
@@ -212,7 +216,77 @@ fn growth() {
     }
 }
 
+/// Builds in a slice, from a model, with so many rounds: the length of the graph.
+type Builder = fn(&[u8], usize, &mut [u8]) -> Result<usize, Refusal>;
+
+/// The proved builder; plain Rust is timed alone as long as there is none.
+const PROVED: Option<Builder> = None;
+
+/// The plain one.
+fn plain_builder(model: &[u8], rounds: usize, slice: &mut [u8]) -> Result<usize, Refusal> {
+    let graph = reference::build_fast::build(model, rounds, slice.len())?;
+    slice[..graph.len()].copy_from_slice(&graph);
+    Ok(graph.len())
+}
+
+fn print_build(call: &str, [proved, plain]: [Duration; 2]) {
+    match PROVED {
+        Some(_) => print_times(call, [proved, plain]),
+        None => println!("  {call:<26} {:>12} {plain:>12.3?}", ""),
+    }
+}
+
+/// Both builders, with so many rounds in slices of the length `room`, leave the same.
+fn build(model: &[u8], rounds: usize, room: usize, runs: usize) -> [Duration; 2] {
+    let (mut slice, mut plain) = (vec![0; room], vec![0; room]);
+    let run = |builder: Builder, slice: &mut [u8]| {
+        black_box(builder(black_box(model), rounds, slice).expect("accepted"));
+    };
+    let proved = PROVED.unwrap_or(|_, _, _| Ok(0));
+    let times = least(runs, || run(proved, &mut slice), || run(plain_builder, &mut plain));
+    print_build(&format!("build, {rounds} rounds"), times);
+    assert!(PROVED.is_none() || slice == plain);
+    times
+}
+
+/// The graph of a model in a slice of the length `room`, for the heading.
+fn heading_of_built(filling: &Filling, room: usize) -> Vec<u8> {
+    let model = filling.model.bytes();
+    let graph = reference::build_fast::build(&model, 0, room).expect("accepted");
+    heading(filling.name, &model, &graph);
+    model
+}
+
+/// As many nodes as there may be, without rounds and with as many as may be asked for.
+fn builds(filling: &Filling, runs: usize) {
+    let model = heading_of_built(filling, GRAPH_BYTES);
+    build(&model, 0, GRAPH_BYTES, runs);
+    build(&model, 1_000, GRAPH_BYTES, runs);
+}
+
+/// A chain of so many nodes of 16 variables, in each of which all combinations are tried; how
+/// long it takes for each of them. The last one waits.
+fn builds_by_combinations(filling: &Filling, nodes: u32, runs: usize) {
+    let bytes = 12 + 4 * MOST_VARIABLES;
+    let room = GRAPH_TABLE + nodes as usize * bytes + 4 * (nodes as usize - 1);
+    let model = heading_of_built(filling, room);
+    let times = build(&model, 0, room, runs);
+    print_build(&format!("  for each of {nodes} nodes"), times.map(|time| time / nodes));
+}
+
+fn building() {
+    for filling in filling::hostile().iter().chain(&filling::in_use()) {
+        builds(filling, 5);
+    }
+    for filling in filling::combinations() {
+        builds_by_combinations(&filling, 64, 1);
+    }
+}
+
 fn main() {
+    if std::env::args().nth(1).as_deref() == Some("building") {
+        return building();
+    }
     let deep = deep_check();
     heading("largest graph, hostile model", &deep.model, &deep.graph);
     model_check(&deep.model, 200);
@@ -262,4 +336,5 @@ fn main() {
     index("index, no batch", &model, &graph, &[], 10_000);
 
     growth();
+    building();
 }

@@ -128,8 +128,8 @@ impl Drop for Seed {
 const SEEDS_FOR_ALL: u64 = 5_000;
 const SEEDS_FOR_ONE: u64 = 2_000;
 
-/// Acceptance, and every refusal.
-const NUMBERS: usize = LAST_REFUSAL as usize + 1;
+/// Acceptance, and every refusal but the builder's.
+const NUMBERS: usize = data::LAST_OF_INPUTS as usize + 1;
 
 /// How often each number was answered, by call; and how often what decides a second
 /// place was met.

@@ -22,7 +22,7 @@ use std::ops::Range;
 type Builder = fn(&[u8], usize, &mut [u8]) -> Result<usize, (usize, [usize; 2])>;
 
 /// The builders under test.
-const BUILDERS: [(&str, Builder); 1] = [("plain Rust, without going over the nodes again", fast)];
+const BUILDERS: &[(&str, Builder)] = &[("plain Rust, without going over the nodes again", fast)];
 
 fn answer(refusal: Refusal) -> (usize, [usize; 2]) {
     (refusal.number as usize, [refusal.place, refusal.second])
@@ -34,10 +34,11 @@ fn fast(model: &[u8], rounds: usize, slice: &mut [u8]) -> Result<usize, (usize, 
     Ok(graph.len())
 }
 
-/// Most nodes, most rounds.
+/// The most rounds that may be asked for.
 const MOST_ROUNDS: usize = 1_000;
 
-/// No graph that is built is longer, whatever the room.
+/// No graph that is built is longer: a tree of the most nodes, of the most variables, with an
+/// edge to each but the root.
 const LONGEST: usize = GRAPH_TABLE + MOST_NODES * node_bytes(MOST_VARIABLES) + 4 * (MOST_NODES - 1);
 
 const fn node_bytes(variables: usize) -> usize {
@@ -274,7 +275,7 @@ fn wrong_models_are_refused_first() {
 fn compare_rooms(model: &[u8], rounds: usize) {
     let expansions = lengths(model, LONGEST).expect("a right model");
     let (_, whole, _) = built_and_accepted(model, rounds, LONGEST);
-    let (mut before, mut count) = (lengths_of_one(model), 0);
+    let (mut before, mut count) = (length_of_one(model), 0);
     for (place, &length) in expansions.iter().enumerate() {
         if length == before {
             continue;
@@ -294,8 +295,8 @@ fn compare_rooms(model: &[u8], rounds: usize) {
     assert!(count > 0);
 }
 
-fn lengths_of_one(model: &[u8]) -> usize {
-    // A record of the variables' body has 6 bytes.
+/// The length of a graph of one node. A record of the model's variables has 6 bytes.
+fn length_of_one(model: &[u8]) -> usize {
     let variables = u32::from_le_bytes([model[12], model[13], model[14], model[15]]) as usize / 6;
     GRAPH_TABLE + node_bytes(variables)
 }
@@ -637,14 +638,14 @@ fn models_of_other_tests() {
 
 // ------------------------------------------------------------------- filling
 
-/// The first nodes of graphs that fill all there may be.
+/// The first nodes of graphs that fill all there may be, and smaller ones of the same sorts.
 #[test]
 fn filling_models_begun() {
-    let all = [filling::hostile(), filling::in_use()].concat();
+    let all = [filling::hostile(), filling::in_use(), filling::small()].concat();
     for Filling { name, model } in &all {
         let room = GRAPH_TABLE + 120 * (node_bytes(model.variables.len()) + 4);
-        let (graph, ..) = built_and_accepted(&model.bytes(), 3, room);
-        println!("{:6} bytes of {room}: {name}", graph.len());
+        let (graph, moves, _) = built_and_accepted(&model.bytes(), 3, room);
+        println!("{:6} bytes of {room}, {} moves: {name}", graph.len(), moves.len());
     }
     for Filling { name, model } in filling::combinations() {
         println!("{name}");

@@ -1148,7 +1148,7 @@ fn run_all(input: &Input) -> [Option<Refusal>; 5] {
 
 #[test]
 fn every_number_is_reached() {
-    let mut numbers = [[0usize; 5]; LAST_REFUSAL as usize + 1];
+    let mut numbers = [[0usize; 5]; LAST_OF_INPUTS as usize + 1];
     let mut kinds: Vec<(&str, usize, usize)> = Vec::new();
     for seed in 0..cases() {
         let input = input(seed);

@@ -69,6 +69,9 @@ pub const NUMBER_BOUND: i64 = 1_000_000;
 /// No more combinations than these are tried for a reading.
 pub const MOST_COMBINATIONS: u64 = 4_096;
 pub const LAST_REFUSAL: u32 = 34;
+/// The highest number of the calls that an `Input` has arguments for. The builder's own comes
+/// after it.
+pub const LAST_OF_INPUTS: u32 = 34;
 
 /// The lengths of the tables of contents: no folder is shorter.
 pub const MODEL_TABLE: usize = 8 * 5;

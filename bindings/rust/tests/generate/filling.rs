@@ -454,6 +454,21 @@ pub fn hostile() -> Vec<Filling> {
     ]
 }
 
+/// The same sorts, of few nodes.
+pub fn small() -> Vec<Filling> {
+    let mut all = vec![
+        Filling { name: "dropped", model: dropped(2, 1) },
+        Filling { name: "dropped by a number", model: dropped_by_number(&[3, 4, 3], 0) },
+        Filling { name: "dropped by a number, 6 before it", model: dropped_by_number(&[2, 4, 4], 6) },
+        Filling { name: "dropped in turns", model: dropped_in_turns(&[3, 4, 3], 18) },
+        Filling { name: "a chain", model: chain(40, MOST_VARIABLES, false) },
+        Filling { name: "a chain that covers beside it", model: chain(30, 7, true) },
+        Filling { name: "16 variables asked by each child", model: all_asked(2, 2) },
+    ];
+    all.extend((0..20).map(|seed| Filling { name: "commands at random", model: at_random(2, seed) }));
+    all
+}
+
 /// Models as they are in use.
 pub fn in_use() -> Vec<Filling> {
     let named = |name, model| Filling { name, model };

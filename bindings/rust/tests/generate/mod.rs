@@ -245,7 +245,7 @@ pub fn input(seed: u64) -> Input {
         7..=9 => mutate::near_model(random),
         10..=12 => mutate::near_graph(random),
         13..=16 => {
-            let number = 1 + random.below(LAST_REFUSAL as usize) as u32;
+            let number = 1 + random.below(LAST_OF_INPUTS as usize) as u32;
             mutate::aimed(random, number)
         }
         17..=18 => mutate::damaged(random),

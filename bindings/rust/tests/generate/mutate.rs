@@ -286,7 +286,7 @@ pub fn arguments(random: &mut Random, input: &mut Input) {
 }
 
 /// Not a refusal: what stands for the view, which has none.
-const VIEW: u32 = LAST_REFUSAL + 1;
+const VIEW: u32 = LAST_OF_INPUTS + 1;
 
 /// How many values a field has.
 const FIELD_VALUES: usize = 1 << 16;

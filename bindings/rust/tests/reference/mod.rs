@@ -6,6 +6,9 @@
 //! between expressions, so depths, ranges and readings are filled upward, once
 //! per entry. Readings are three-way first: by all states (`combinations`) only
 //! where a rule asks for what is unknown.
+//!
+//! The builder is there twice: `build` by the words of the paper, `build_fast` for the
+//! largest graphs.
 #![allow(dead_code)]
 
 pub mod build;
