@@ -29,7 +29,8 @@ usage() {
   exit 2
 }
 
-built= check=
+built=
+check=
 for word in "$@"; do
   case "$word" in
     --built) built=yes ;;

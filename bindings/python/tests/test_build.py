@@ -74,7 +74,7 @@ class Build(Building):
         fold = os.path.join(folder, "graph.fold")
         counts = "6 nodes, 3 expanded, 2 covered, 1 target, 0 waiting; 152 bytes"
         self.assertEqual(out, f"{fold}: {counts}\nroot 1000000000 100 %\n")
-        self.assertIn("laguipy: it can go on for ever from node 0, which counts as reaching a target, however many", said)
+        self.assertIn("laguipy: it can go on for ever from node 0, which counts as reaching a target, however", said)
         self.assertIn(f"`laguipy figures {folder} 1000` has the chance within 1000 steps", said)
         self.assertEqual(run("figures", folder, "1000")[1], b"within 1000 10000000 1 %\n")
         self.assertTrue(run(folder)[1].startswith(b"accepted 6 nodes 3 expanded 2 covered 1 target 0 waiting\n"))
