@@ -90,8 +90,11 @@ pub const NO_NODE: u16 = 65_535;
 /// What stands for no variable, as the second place of a refusal.
 pub const NO_VARIABLE: usize = 65_535;
 
+/// Rounds that [`build`] may be asked for.
+pub const MOST_ROUNDS: usize = 1000;
+
 /// The highest number of a refusal.
-pub const LAST_REFUSAL: u32 = 34;
+pub const LAST_REFUSAL: u32 = 35;
 
 /// The first broken rule: its number, and the two places returned with it.
 /// `docs/REFUSALS.md` in Laguipy's repository says of each number what it means, what
@@ -183,6 +186,15 @@ mod c {
             second_len: usize,
             place: *mut [usize; 2],
             part: *mut [usize; 2],
+        ) -> usize;
+        pub fn laguipy_build(
+            model: *const u8,
+            model_len: usize,
+            rounds: usize,
+            out: *mut u8,
+            out_len: usize,
+            place: *mut [usize; 2],
+            length: *mut usize,
         ) -> usize;
         pub fn laguipy_index(
             model: *const u8,
@@ -438,6 +450,47 @@ pub fn index(
         )
     };
     outcome(number, place).map(|()| listed)
+}
+
+/// Builds a graph of the model in a slice, with its values after `rounds` rounds, at most
+/// [`MOST_ROUNDS`]. Returns the graph's length; bytes past it are untouched. Every graph built
+/// is accepted by [`graph_check`].
+///
+/// Building ends when the next expansion would pass [`MOST_NODES`] nodes or the slice; nodes
+/// that wait then stay waiting, and the root value is a bound all the same.
+///
+/// # Errors
+///
+/// Refusals of the model, then 35: at place 0 if the slice cannot hold a graph of one node, at
+/// place 1 if more rounds are asked for than may be. Refused, the slice is untouched.
+///
+/// # Example
+///
+/// ```
+/// # fn main() -> Result<(), laguipy::Refusal> {
+/// let model = include_bytes!("../examples/pedal/model.fold");
+/// let mut out = [0; 1000];
+/// let length = laguipy::build(model, 1000, &mut out)?;
+/// let summary = laguipy::graph_check(model, &out[..length])?;
+/// assert_eq!((length, summary.expanded), (152, 3));
+/// # Ok(())
+/// # }
+/// ```
+pub fn build(model: &[u8], rounds: usize, out: &mut [u8]) -> Result<usize, Refusal> {
+    let (mut place, mut length) = ([0; 2], 0);
+    // SAFETY: as in `figure_rows`; the two locals are apart.
+    let number = unsafe {
+        c::laguipy_build(
+            model.as_ptr(),
+            model.len(),
+            rounds,
+            out.as_mut_ptr(),
+            out.len(),
+            &mut place,
+            &mut length,
+        )
+    };
+    outcome(number, place).map(|()| length)
 }
 
 /// The step of a state by a command and a branch, also from a target. The new

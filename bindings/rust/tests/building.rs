@@ -22,10 +22,17 @@ use std::ops::Range;
 type Builder = fn(&[u8], usize, &mut [u8]) -> Result<usize, (usize, [usize; 2])>;
 
 /// The builders under test.
-const BUILDERS: &[(&str, Builder)] = &[("plain Rust, without going over the nodes again", fast)];
+const BUILDERS: &[(&str, Builder)] = &[
+    ("the library's", library),
+    ("plain Rust, without going over the nodes again", fast),
+];
 
 fn answer(refusal: Refusal) -> (usize, [usize; 2]) {
     (refusal.number as usize, [refusal.place, refusal.second])
+}
+
+fn library(model: &[u8], rounds: usize, slice: &mut [u8]) -> Result<usize, (usize, [usize; 2])> {
+    laguipy::build(model, rounds, slice).map_err(answer)
 }
 
 fn fast(model: &[u8], rounds: usize, slice: &mut [u8]) -> Result<usize, (usize, [usize; 2])> {

@@ -68,7 +68,7 @@ pub const BOUND: i16 = 30_000;
 pub const NUMBER_BOUND: i64 = 1_000_000;
 /// No more combinations than these are tried for a reading.
 pub const MOST_COMBINATIONS: u64 = 4_096;
-pub const LAST_REFUSAL: u32 = 34;
+pub const LAST_REFUSAL: u32 = 35;
 /// The highest number of the calls that an `Input` has arguments for. The builder's own comes
 /// after it.
 pub const LAST_OF_INPUTS: u32 = 34;
