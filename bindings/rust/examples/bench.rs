@@ -219,21 +219,10 @@ fn growth() {
 /// Builds in a slice, from a model, with so many rounds: the length of the graph.
 type Builder = fn(&[u8], usize, &mut [u8]) -> Result<usize, Refusal>;
 
-/// The proved builder; plain Rust is timed alone as long as there is none.
-const PROVED: Option<Builder> = None;
-
-/// The plain one.
 fn plain_builder(model: &[u8], rounds: usize, slice: &mut [u8]) -> Result<usize, Refusal> {
     let graph = reference::build_fast::build(model, rounds, slice.len())?;
     slice[..graph.len()].copy_from_slice(&graph);
     Ok(graph.len())
-}
-
-fn print_build(call: &str, [proved, plain]: [Duration; 2]) {
-    match PROVED {
-        Some(_) => print_times(call, [proved, plain]),
-        None => println!("  {call:<26} {:>12} {plain:>12.3?}", ""),
-    }
 }
 
 /// Both builders, with so many rounds in slices of the length `room`, leave the same.
@@ -242,10 +231,9 @@ fn build(model: &[u8], rounds: usize, room: usize, runs: usize) -> [Duration; 2]
     let run = |builder: Builder, slice: &mut [u8]| {
         black_box(builder(black_box(model), rounds, slice).expect("accepted"));
     };
-    let proved = PROVED.unwrap_or(|_, _, _| Ok(0));
-    let times = least(runs, || run(proved, &mut slice), || run(plain_builder, &mut plain));
-    print_build(&format!("build, {rounds} rounds"), times);
-    assert!(PROVED.is_none() || slice == plain);
+    let times = least(runs, || run(laguipy::build, &mut slice), || run(plain_builder, &mut plain));
+    print_times(&format!("build, {rounds} rounds"), times);
+    assert!(slice == plain);
     times
 }
 
@@ -271,7 +259,7 @@ fn builds_by_combinations(filling: &Filling, nodes: u32, runs: usize) {
     let room = GRAPH_TABLE + nodes as usize * bytes + 4 * (nodes as usize - 1);
     let model = heading_of_built(filling, room);
     let times = build(&model, 0, room, runs);
-    print_build(&format!("  for each of {nodes} nodes"), times.map(|time| time / nodes));
+    print_times(&format!("  for each of {nodes} nodes"), times.map(|time| time / nodes));
 }
 
 fn building() {

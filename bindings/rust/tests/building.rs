@@ -22,10 +22,8 @@ use std::ops::Range;
 type Builder = fn(&[u8], usize, &mut [u8]) -> Result<usize, (usize, [usize; 2])>;
 
 /// The builders under test.
-const BUILDERS: &[(&str, Builder)] = &[
-    ("the library's", library),
-    ("plain Rust, without going over the nodes again", fast),
-];
+const BUILDERS: &[(&str, Builder)] =
+    &[("the library's", library), ("plain Rust, without going over the nodes again", fast)];
 
 fn answer(refusal: Refusal) -> (usize, [usize; 2]) {
     (refusal.number as usize, [refusal.place, refusal.second])
@@ -641,6 +639,29 @@ fn models_of_other_tests() {
         let model = generate::input(seed).model;
         let _ = built(&model, 2, 2_000).map(|(graph, _)| accepted(&model, &graph));
     }
+}
+
+/// Random models whose graphs have more nodes: the first ones by the words of the paper, and
+/// all that there may be by the plain builder for the largest graphs.
+#[test]
+fn larger_random_models() {
+    let [mut larger, mut largest] = [0; 2];
+    for seed in 0..cases() / 20 {
+        let _said = Seed(seed);
+        let model = building::model(&mut Random::new(seed << 32));
+        let (bytes, variables) = (model.bytes(), model.variables.len());
+        let graph = reference::build_fast::build(&bytes, 50, LONGEST).expect("a right model");
+        let nodes = records(&graph, variables).len();
+        if nodes > 100 {
+            accepted(&bytes, &graph);
+            compare_with(&Ok(graph), &bytes, 50, LONGEST);
+            built_and_accepted(&bytes, 5, GRAPH_TABLE + 250 * (node_bytes(variables) + 4));
+            larger += 1;
+            largest += usize::from(nodes > 4_000);
+        }
+    }
+    println!("{larger} graphs of over 100 nodes, {largest} of over 4,000");
+    assert!(cases() < SEEDS_FOR_ALL || (larger > 5 && largest > 0));
 }
 
 // ------------------------------------------------------------------- filling

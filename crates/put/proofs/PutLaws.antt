@@ -69,6 +69,10 @@ stays-then p q s t = record {
   past = λ j h. t .past j h ∙ s .past j (omega arith);
 }
 
+-- More bytes may have changed than did.
+pub stays-wider : {a b c : ℕ} {l new : List ℕ} → b ≤ c → Stays a b l new → Stays a c l new
+stays-wider d s = record { long = s .long; below = s .below; past = λ j h. s .past j (omega arith) }
+
 -- A field that lies outside reads as before.
 pub u16-below : {a b : ℕ} {l new : List ℕ} → Stays a b l new → (j : ℕ) → j + 1 < a → u16 new j ≡ u16 l j
 unfolding u16

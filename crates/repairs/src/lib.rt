@@ -35,11 +35,11 @@ fn mark_read(vars: usize, nb: &mut [u8], from: usize, end: usize)
     ensures { λ _. ⌜ AllMarked vars from end (now (nb .entry)) (now (nb .exit)) ⌝ }
 {
     let size = graph::node_size(vars);
-    let mut x = from;
+    let mut x = wants::next_unread(vars, nb, 0, from, end);
     while x < end {
         let set = folder::field(size, nb, x, SET);
         nodes::put_field(vars, nb, x, READ, set);
-        x += 1;
+        x = wants::next_unread(vars, nb, 0, x + 1, end);
     }
 }
 

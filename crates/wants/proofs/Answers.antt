@@ -5,6 +5,7 @@ use mathlib.Core.Path.{_≡_, refl, sym, ap, _∙_}
 use mathlib.Core.Bool.{Bool, true, false, not, _&&_, false≢true}
 use mathlib.Core.Option.{Option, none, some}
 use mathlib.Core.List.{List}
+use native.Mathlib.Decide.{decLt}
 use native.Mathlib.Omega.{arith}
 use borrow.Author.Tests.{ne-eqb}
 use Rattle.folder.specs.Contents.{body, countOf, field}
@@ -24,11 +25,12 @@ use Rattle.states.proofs.Reading.{read-number, read-truth}
 use Rattle.model.specs.Layout.{variableCount, branchSize}
 use Rattle.model.specs.Model.{Model, modelOf}
 use Rattle.model.proofs.Limits.{limits}
+use Rattle.graph.specs.Simulation.{nodeSize}
 use Rattle.building.specs.First.{_orelse_, given, first}
 use Rattle.building.specs.Moves.{wantedT, wantedN}
-use Rattle.building.proofs.FirstLaws.{nothing, Searched, search-next, search-found, search-over}
-use Rattle.held.specs.Held.{readField, nodeIn, setIn, labelIn, NodeHere}
-use Rattle.wants.specs.Wants.{found, truthWantsIn, numberWantsIn, ReadBy}
+use Rattle.building.proofs.FirstLaws.{nothing, first-none, first-nowhere, Searched, search-next, search-found, search-over}
+use Rattle.held.specs.Held.{readField, trackedField, nodeIn, setIn, labelIn, NodeHere}
+use Rattle.wants.specs.Wants.{found, truthWantsIn, numberWantsIn, resultIn, ReadBy, IsRead}
 use Rattle.wants.proofs.Here.{label-proper}
 
 -- ---- a variable, or none
@@ -52,6 +54,14 @@ module _ {f : ℕ → Option ℕ} {n i w : ℕ} (s : Searched f n i) where
 
 pub search-end : {f : ℕ → Option ℕ} {n i : ℕ} → Searched f n i → n ≤ i → found noVariable ≡ first n f
 search-end s l = found-none refl ∙ sym (search-over s l)
+
+-- Places where nothing is wanted are passed.
+pub search-skip : {f : ℕ → Option ℕ} {n i j : ℕ} → Searched f n i → j ≤ n → ((k : ℕ) → i ≤ k → k < j → f k ≡ none) → Searched f n j
+search-skip {f} {n} {i} {j} s l h = record { within = l; none-yet = first-nowhere f j (λ k b. either k b (decLt k i)) }
+  where
+    either : (k : ℕ) → k < j → Dec (k < i) → f k ≡ none
+    either k b (yes p) = first-none i f (s .none-yet) k p
+    either k b (no p) = h k (omega arith) b
 
 -- One of two.
 pub either-hit : {w : ℕ} (p q : Option ℕ) → found w ≡ p → (w ≡ noVariable → ⊥) → found w ≡ (p orelse q)
@@ -175,3 +185,31 @@ module _ {m nb : List ℕ} {n : ℕ} (here : NodeHere m nb n) where
     assigned-wants {x} known f g h j =
         j ∙ (λ i. given ((h ∙ (λ a. hasBit (f a) v && not (hasBit (g a) v))) i) (numberWantsIn m nb n (assigned-is i)))
         ∙ given-new (hasBit (setIn m nb x) v) (hasBit (nodeIn m nb x readField) v) (numberWantsIn m nb n (modelOf m .assigned r v)) (known .is v l)
+
+-- ---- nodes that are read
+module _ (vars : ℕ) (nb : List ℕ) (start from : ℕ) where
+  pub read-start : (k : ℕ) → from ≤ k → k < from → IsRead vars nb (start + k)
+  read-start k a b = absurd (omega arith)
+
+  module _ (i : ℕ) {size s r : ℕ} (h : (k : ℕ) → from ≤ k → k < i → IsRead vars nb (start + k)) (p : size ≡ nodeSize vars) (e : s ≡ field size nb (start + i) trackedField) (f : r ≡ field size nb (start + i) readField)
+      (q : s ≡ r) where
+    here-read : (k : ℕ) → from ≤ k → k < i + 1 → Dec (k < i) → IsRead vars nb (start + k)
+    here-read k a b (yes l) = h k a l
+    here-read k a b (no l) =
+        let z : k ≡ i = omega arith in
+        rw z (rw (sym p) (sym e ∙ q ∙ f))
+
+    pub read-next : (k : ℕ) → from ≤ k → k < i + 1 → IsRead vars nb (start + k)
+    read-next k a b = here-read k a b (decLt k i)
+
+-- A child that is read wants nothing.
+given-nothing : {A : Type 0} (b : Bool) (o : Option A) → (b ≡ true → o ≡ none) → given b o ≡ none
+unfolding given
+given-nothing true o h = h refl
+given-nothing false o h = refl
+
+pub read-wants : {m nb : List ℕ} {n x r vars : ℕ} → vars ≡ variableCount m → ReadBy m nb n x r → IsRead vars nb x → resultIn m nb n x r ≡ none
+unfolding resultIn
+read-wants {m} {nb} {n} {x} {r} q known e =
+    let f : setIn m nb x ≡ nodeIn m nb x readField = rw (sym q) e in
+    first-nowhere _ (modelOf m .variables) (λ v l. given-nothing (hasBit (setIn m nb x) v) _ (λ h. known .is v l (sym (ap (λ (s : ℕ). hasBit s v) f) ∙ h)))

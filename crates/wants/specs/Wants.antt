@@ -10,6 +10,7 @@ use lib.Dec.{eqb}
 use lib.ListN.{length}
 use lib.IntN.{ℤ}
 use Rattle.folder.specs.Pick.{pick}
+use Rattle.folder.specs.Contents.{field}
 use Rattle.expressions.specs.Limits.{noVariable, mostExpressions}
 use Rattle.expressions.specs.Reading.{hasBit}
 use Rattle.expressions.specs.States.{numberTold, truthTold}
@@ -20,7 +21,8 @@ use Rattle.model.specs.Model.{modelOf, firstRecord}
 use Rattle.building.specs.First.{_orelse_, given, first}
 use Rattle.building.specs.Building.{enabled, before, births}
 use Rattle.building.specs.Moves.{wantedT, wantedN}
-use Rattle.held.specs.Held.{childField, readField, nodeIn, stateIn, setIn, labelIn, NodeHere}
+use Rattle.graph.specs.Simulation.{nodeSize}
+use Rattle.held.specs.Held.{childField, readField, trackedField, nodeIn, stateIn, setIn, labelIn, NodeHere}
 
 -- A variable that is wanted, or none.
 unfoldable pub found : ℕ → Option ℕ
@@ -29,6 +31,10 @@ found v = pick (eqb v noVariable) none (some v)
 -- The row has what each entry mentions.
 abbrev pub MasksOf : List ℕ → List ℕ → Type 0
 MasksOf m masks = Masked (modelOf m .entries) (modelOf m .entries .count) masks
+
+-- All that node x tracks is marked as read by its parent.
+abbrev pub IsRead : ℕ → List ℕ → ℕ → Type 0
+IsRead vars nb x = field (nodeSize vars) nb x trackedField ≡ field (nodeSize vars) nb x readField
 
 module _ (m nb : List ℕ) (n : ℕ) where
   -- What entry e wants in the label of node n, as a truth and as a number.

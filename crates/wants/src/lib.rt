@@ -19,10 +19,11 @@ ghost use Rattle.expressions.specs.Right.{IsNumber, IsTruth};
 ghost use Rattle.expressions.specs.States.{lackedBy};
 ghost use Rattle.states.specs.Needed.{isUp};
 ghost use Rattle.states.specs.Read.{readsKnown, Widened};
+ghost use Rattle.model.specs.Limits.{mostVariables};
 ghost use Rattle.model.specs.Model.{modelOf};
 ghost use Rattle.building.specs.First.{_orelse_, given, first};
 ghost use Rattle.held.specs.Held.{childField, nodeIn, labelIn, NodeHere};
-ghost use Rattle.wants.specs.Wants.{found, MasksOf, truthWantsIn, numberWantsIn, guardsIn, ownIn, resultIn, resultsIn, childrenEnd, ReadBy, AllRead, LabelFlagged, StateSettled, NodeRead};
+ghost use Rattle.wants.specs.Wants.{found, MasksOf, IsRead, truthWantsIn, numberWantsIn, guardsIn, ownIn, resultIn, resultsIn, childrenEnd, ReadBy, AllRead, LabelFlagged, StateSettled, NodeRead};
 
 // ---- one node's rows
 
@@ -260,7 +261,25 @@ fn result_wants(
     NO_VARIABLE
 }
 
-// What the children of one command want.
+// Of the nodes from `start`, by number from there: the first, from `from` on, that tracks what is not marked as read; `end` if there is none below it.
+pub fn next_unread(vars: usize, nb: &[u8], start: usize, from: usize, end: usize) -> usize
+    requires { ⌜ (vars ≤ mostVariables) × (from ≤ end) × (start + end ≤ fieldLimit) ⌝ }
+    ensures { λ r. ⌜ (from ≤ r) × (r ≤ end) ⌝ }
+    ensures { λ r. ⌜ ((b : ℕ) → from ≤ b → b < r → IsRead vars (now (nb .entry)) (start + b)) ⌝ }
+{
+    let size = graph::node_size(vars);
+    let mut b = from;
+    while b < end {
+        let x = start + b;
+        if folder::field(size, nb, x, SET) != folder::field(size, nb, x, READ) {
+            return b;
+        }
+        b += 1;
+    }
+    end
+}
+
+// What the children of one command want. Those that are read want nothing.
 fn branches_want(
     m: &[u8],
     nb: &[u8],
@@ -276,19 +295,21 @@ fn branches_want(
     ensures { λ r. ⌜ found r ≡ first (lead .count) (λ b. resultIn (now (m .entry)) (now (nb .entry)) n (lead .node + b) (lead .record + b)) ⌝ }
     ensures { λ _. ⌜ LabelFlagged (now (m .entry)) (now (nb .entry)) n (now (known .exit)) ⌝ }
 {
+    let vars = graph::variable_count(m);
+    let start = lead.node;
     let count = lead.count;
-    let mut b = 0;
+    let mut b = next_unread(vars, nb, start, 0, count);
     while b < count {
         let one = Lead {
             record: lead.record + b,
-            node: lead.node + b,
+            node: start + b,
             count: 1,
         };
         let w = result_wants(m, nb, n, masks, state, one, known);
         if w != NO_VARIABLE {
             return w;
         }
-        b += 1;
+        b = next_unread(vars, nb, start, b + 1, count);
     }
     NO_VARIABLE
 }
