@@ -3,7 +3,7 @@
 use clamped::add;
 use clamped::long;
 use folder::Refusal;
-use graph::GraphAnswer;
+use graph::Summary;
 use lookup::MOST_NUMBERS;
 use lookup::index_case;
 use samples::build::asked;
@@ -25,7 +25,9 @@ use tally::judge;
 use tally::outcome_of;
 use tally::say;
 use witness::box_steps;
+use witness::build_case;
 use witness::figure_case;
+use witness::summary_case;
 use witness::zero_step;
 
 // The longest model and the longest graph, and one byte more of each.
@@ -75,15 +77,13 @@ fn row_case(t: &mut [usize; TALLY], m: &[u8], g: &[u8], h: usize, d: &[usize; 32
     hold(t, i == 32, i, unit(row, i));
 }
 
-fn summary_case(t: &mut [usize; TALLY], m: &[u8], g: &[u8], d: &[usize; 32]) {
-    let a = laguipy::graph_check(m, g);
-    match a {
-        GraphAnswer::Accepted(s) => {
-            let nodes = (s.expanded == d[1]) & (s.covered == d[2]) & (s.target == d[3]);
-            let rest = (s.root == d[0]) & (s.waiting == d[4]);
-            hold(t, nodes & rest, s.root, s.expanded)
-        }
-        GraphAnswer::Refused(f) => hold(t, false, f.number, f.place),
+fn summary_due(d: &[usize; 32]) -> Summary {
+    Summary {
+        root: d[0],
+        expanded: d[1],
+        covered: d[2],
+        target: d[3],
+        waiting: d[4],
     }
 }
 
@@ -124,7 +124,7 @@ fn value_case(
 ) {
     match kind {
         b'r' => row_case(t, m, g, a[0], d),
-        b'c' => summary_case(t, m, g, d),
+        b'c' => summary_case(t, m, g, summary_due(d)),
         b'v' => record_case(t, m, a[1], a[2], d),
         b'h' => hash_case(t, a, d),
         _ => hold(t, false, 0, 0),
@@ -155,6 +155,7 @@ fn asked_case(
         b'g' | b'Z' => judge(t, outcome_of(laguipy::graph_check(m, g)), answer_due(d)),
         b'f' => figure_case(t, m, g, a, answer_due(d)),
         b'i' => index_case(t, m, g, a, answer_due(d)),
+        b'B' => build_case(t, m, a[0], a[1], d),
         b's' => zero_step(t, m, a[1], a[0], a[2], a[3]),
         b'b' => box_steps(t, m),
         _ => value_case(t, m, g, kind, a, d),

@@ -8,7 +8,7 @@ use folder::Refusal;
 use graph::GraphAnswer;
 
 // The last refusal of the table.
-const LAST: usize = 34;
+const LAST: usize = 35;
 
 pub const CASES: usize = LAST + 1;
 

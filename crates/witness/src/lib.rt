@@ -1,9 +1,13 @@
-// The library's steps, figures and root values against the solver's, and the figure call's answers and rows. Safe and
-// ending on any arguments; its contracts say no more.
+// The library's steps, figures and root values against the solver's, and the figure and the build call's answers and rows.
+// Safe and ending on any arguments; its contracts say no more.
 use clamped::add;
 use clamped::sub;
+use assembly::BuildAnswer;
+use folder::Outcome;
 use folder::Refusal;
+use graph::GraphAnswer;
 use graph::MOST_NODES;
+use graph::Summary;
 use solver::MOST_VARIABLES;
 use solver::Trial;
 use solver::ZERO;
@@ -225,4 +229,82 @@ pub fn figure_case(t: &mut [usize; TALLY], m: &[u8], g: &[u8], a: &[usize; 32], 
         due,
     );
     rows_case(t, m, g, a[0], a[1], a[2]);
+}
+
+// ---- graphs, and the build call
+
+fn same_summary(a: Summary, b: Summary) -> bool {
+    let nodes = (a.expanded == b.expanded) & (a.covered == b.covered) & (a.target == b.target);
+    nodes & (a.root == b.root) & (a.waiting == b.waiting)
+}
+
+// A graph that is due to be accepted, with this root value and these nodes.
+pub fn summary_case(t: &mut [usize; TALLY], m: &[u8], g: &[u8], due: Summary) {
+    let a = laguipy::graph_check(m, g);
+    match a {
+        GraphAnswer::Accepted(s) => hold(t, same_summary(s, due), s.root, s.expanded),
+        GraphAnswer::Refused(f) => hold(t, false, f.number, f.place),
+    }
+}
+
+// The slice of the longest line, and what it holds before the call.
+const SLICE: usize = 4096;
+
+const UNWRITTEN: u8 = 9;
+
+fn lent(s: &mut [u8], n: usize) -> &mut [u8] {
+    if n <= s.len() { &mut s[0..n] } else { s }
+}
+
+fn front(s: &[u8], n: usize) -> &[u8] {
+    if n <= s.len() { &s[0..n] } else { s }
+}
+
+fn unwritten(s: &[u8; SLICE], from: usize) -> bool {
+    let mut i = 0;
+    while i < SLICE {
+        if (from <= i) & (s[i] != UNWRITTEN) {
+            return false;
+        }
+        i += 1;
+    }
+    true
+}
+
+// What a line says of the graph built: after its length the root value, and the nodes of each kind.
+fn built_due(d: &[usize; 32]) -> Summary {
+    Summary {
+        root: d[3],
+        expanded: d[4],
+        covered: d[5],
+        target: d[6],
+        waiting: d[7],
+    }
+}
+
+// The build call on a slice of that room. The graph is accepted, and the solver's bounds hold of it; what is past it, and a
+// refused slice, is untouched.
+pub fn build_case(t: &mut [usize; TALLY], m: &[u8], rounds: usize, room: usize, d: &[usize; 32]) {
+    let mut slice = [UNWRITTEN; SLICE];
+    let a = laguipy::build(m, rounds, lent(&mut slice, room));
+    match a {
+        BuildAnswer::Built(n) => {
+            judge(t, Outcome::Accepted, answer(d[0], d[1]));
+            hold(t, (n == d[2]) & unwritten(&slice, n), n, 0);
+            summary_case(t, m, front(&slice, n), built_due(d));
+            bounds(t, m, front(&slice, n));
+        }
+        BuildAnswer::Refused(f) => {
+            judge(
+                t,
+                Outcome::Refused(f),
+                Refusal {
+                    number: d[0],
+                    place: d[1],
+                    second: d[2],
+                },
+            );
+            hold(t, unwritten(&slice, 0), 0, 0);
+        }
+    }
 }
