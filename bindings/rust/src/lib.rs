@@ -53,6 +53,8 @@
 //!   limits, each from a seed (the environment variable `LAGUIPY_CASES` says how
 //!   many seeds the tests take);
 //! - `tests/against_reference.rs`: every call compared with the plain one;
+//! - `tests/building.rs`: graphs that are built, compared byte for byte with those of
+//!   two plain builders, one by the paper's words and a quick one;
 //! - `examples/check.rs`: prints the check program's report, without its limit of
 //!   65,536 bytes; `examples/bench.rs`: how long the calls and the plain ones take
 //!   on the largest inputs; `examples/answers.rs`: inputs with the plain calls'

@@ -3,4 +3,4 @@
 use Prim.Native.Nat.{ℕ}
 
 abbrev pub lastRefusal : ℕ
-lastRefusal = 34
+lastRefusal = 35

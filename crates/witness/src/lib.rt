@@ -260,10 +260,10 @@ fn front(s: &[u8], n: usize) -> &[u8] {
     if n <= s.len() { &s[0..n] } else { s }
 }
 
-fn unwritten(s: &[u8; SLICE], from: usize) -> bool {
-    let mut i = 0;
-    while i < SLICE {
-        if (from <= i) & (s[i] != UNWRITTEN) {
+fn unwritten(s: &[u8], from: usize) -> bool {
+    let mut i = from;
+    while i < s.len() {
+        if s[i] != UNWRITTEN {
             return false;
         }
         i += 1;
@@ -282,29 +282,35 @@ fn built_due(d: &[usize; 32]) -> Summary {
     }
 }
 
-// The build call on a slice of that room. The graph is accepted, and the solver's bounds hold of it; what is past it, and a
-// refused slice, is untouched.
-pub fn build_case(t: &mut [usize; TALLY], m: &[u8], rounds: usize, room: usize, d: &[usize; 32]) {
-    let mut slice = [UNWRITTEN; SLICE];
-    let a = laguipy::build(m, rounds, lent(&mut slice, room));
+// A graph of n bytes was built: it is accepted, the solver's bounds hold of it, and what is past it is untouched.
+fn built_case(t: &mut [usize; TALLY], m: &[u8], s: &[u8], n: usize, d: &[usize; 32]) {
+    let g = front(s, n);
+    judge(t, Outcome::Accepted, answer(d[0], d[1]));
+    hold(t, (n == d[2]) & unwritten(s, n), n, 0);
+    summary_case(t, m, g, built_due(d));
+    bounds(t, m, g);
+}
+
+fn build_in(
+    t: &mut [usize; TALLY],
+    m: &[u8],
+    rounds: usize,
+    room: usize,
+    s: &mut [u8],
+    d: &[usize; 32],
+) {
+    let a = laguipy::build(m, rounds, lent(s, room));
     match a {
-        BuildAnswer::Built(n) => {
-            judge(t, Outcome::Accepted, answer(d[0], d[1]));
-            hold(t, (n == d[2]) & unwritten(&slice, n), n, 0);
-            summary_case(t, m, front(&slice, n), built_due(d));
-            bounds(t, m, front(&slice, n));
-        }
+        BuildAnswer::Built(n) => built_case(t, m, s, n, d),
         BuildAnswer::Refused(f) => {
-            judge(
-                t,
-                Outcome::Refused(f),
-                Refusal {
-                    number: d[0],
-                    place: d[1],
-                    second: d[2],
-                },
-            );
-            hold(t, unwritten(&slice, 0), 0, 0);
+            judge(t, Outcome::Refused(f), answer(d[0], d[1]));
+            hold(t, unwritten(s, 0), 0, 0)
         }
     }
+}
+
+// The build call on a slice of that room.
+pub fn build_case(t: &mut [usize; TALLY], m: &[u8], rounds: usize, room: usize, d: &[usize; 32]) {
+    let mut slice = [UNWRITTEN; SLICE];
+    build_in(t, m, rounds, room, &mut slice, d);
 }

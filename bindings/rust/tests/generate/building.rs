@@ -55,6 +55,12 @@ impl Entries {
         let record = |(weight, state): (u16, Vec<u16>)| [vec![weight], state].concat();
         self.0.command(guard, branches.into_iter().map(record).collect());
     }
+
+    /// The same with branches by weight and what they change.
+    pub fn command_by_changes(&mut self, guard: u16, branches: &[(u16, &[(u16, u16)])]) {
+        let branches = branches.iter().map(|&(weight, changes)| (weight, self.changed(changes))).collect();
+        self.command(guard, branches);
+    }
 }
 
 // ------------------------------------------------------------------- by hand

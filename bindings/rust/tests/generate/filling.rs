@@ -48,7 +48,7 @@ fn pad(entries: &mut Entries) {
     }
 }
 
-/// Commands with one branch for each state; the weights are as even as can be told.
+/// Commands with one branch for each state; all weights but a command's first are 1.
 fn spread(entries: &mut Entries, guard: u16, states: Vec<Vec<u16>>) {
     let total = entries.0.model.total;
     for states in states.chunks(MOST_BRANCHES) {
@@ -60,25 +60,37 @@ fn spread(entries: &mut Entries, guard: u16, states: Vec<Vec<u16>>) {
 
 // ------------------------------------------------------------------- dropped
 
-/// The root leads to `middle` nodes, and each of these to 16 × `per` that are alike but for
-/// what they carry. The lowest of them is expanded, and covers the others until its child
-/// asks for what is carried; then all the others are dropped, and the next is expanded.
-fn dropped(middle: i16, per: i16) -> ModelData {
-    let mut entries = Entries(Builder::new(BRANCHES, vec![[0, 3, 0], [0, 63, 0], [0, 63, 0], [0, 16, 0]]));
-    let phases: Vec<u16> = (0..4).map(|phase| entries.variable_is(0, phase)).collect();
-    let numbers: Vec<u16> = (0..64).map(|c| entries.constant(c)).collect();
+/// Phase 0, the root's, leads to `middle` nodes of phase 1, and each of these to 16 × `per` of
+/// phase 2, with values of variables 1 to 3 that are never the highest.
+fn fan_out(entries: &mut Entries, middle: i16, per: i16) {
+    let numbers: Vec<u16> = (0..63).map(|c| entries.constant(c)).collect();
     let of = |c: i16| numbers[c as usize];
+    let phases = [0, 1].map(|phase| entries.variable_is(0, phase));
     let first = (0..middle).map(|k| entries.changed(&[(0, of(1)), (1, of(k))])).collect();
-    spread(&mut entries, phases[0], first);
+    spread(entries, phases[0], first);
     let second = (0..per).flat_map(|a| (0..16).map(move |b| (a, b)));
     let second = second.map(|(a, b)| entries.changed(&[(0, of(2)), (2, of(a)), (3, of(b))])).collect();
-    spread(&mut entries, phases[1], second);
-    let third = entries.changed(&[(0, of(3))]);
-    spread(&mut entries, phases[2], vec![third]);
-    let carried = any_highest(&mut entries, 1);
-    let last = entries.and(phases[3], carried);
+    spread(entries, phases[1], second);
+}
+
+/// A phase asks for all variables, one after the other; nothing comes of it.
+fn ask_all(entries: &mut Entries, phase: i16) {
+    let (here, highest) = (entries.variable_is(0, phase), any_highest(entries, 1));
+    let asked = entries.and(here, highest);
     let unchanged = entries.unchanged();
-    spread(&mut entries, last, vec![unchanged]);
+    spread(entries, asked, vec![unchanged]);
+}
+
+/// Many nodes are alike but for what they carry. The lowest of them is expanded, and covers
+/// the others until its child asks for what is carried; then all the others are dropped, and
+/// the next is expanded.
+fn dropped(middle: i16, per: i16) -> ModelData {
+    let mut entries = Entries(Builder::new(BRANCHES, vec![[0, 3, 0], [0, 63, 0], [0, 63, 0], [0, 16, 0]]));
+    fan_out(&mut entries, middle, per);
+    let (here, last) = (entries.variable_is(0, 2), entries.constant(3));
+    let child = entries.changed(&[(0, last)]);
+    spread(&mut entries, here, vec![child]);
+    ask_all(&mut entries, 3);
     entries.0.model.target = entries.never();
     entries.0.model
 }
@@ -146,10 +158,7 @@ impl Numbered {
         let here = entries.variable_is(0, phase);
         let state = entries.changed(&[(0, self.numbers[next as usize])]);
         spread(entries, here, vec![state]);
-        let (there, highest) = (entries.variable_is(0, next), any_highest(entries, 1));
-        let asked = entries.and(there, highest);
-        let unchanged = entries.unchanged();
-        spread(entries, asked, vec![unchanged]);
+        ask_all(entries, next);
     }
 
     fn finish(mut self) -> ModelData {
@@ -217,24 +226,14 @@ fn chain(length: i16, variables: usize, beside: bool) -> ModelData {
     entries.0.model
 }
 
-/// `middle` nodes lead to 16 × `per` each, and every one of these asks for all 16 variables,
-/// one after the other.
+/// Many children, of few nodes, and every one of them asks for all 16 variables, one after the
+/// other.
 fn all_asked(middle: i16, per: i16) -> ModelData {
     let mut ranges = vec![[0, 1, 0]; MOST_VARIABLES];
     ranges[..4].copy_from_slice(&[[0, 2, 0], [0, 63, 0], [0, 63, 0], [0, 16, 0]]);
     let mut entries = Entries(Builder::new(BRANCHES, ranges));
-    let phases: Vec<u16> = (0..3).map(|phase| entries.variable_is(0, phase)).collect();
-    let numbers: Vec<u16> = (0..64).map(|c| entries.constant(c)).collect();
-    let of = |c: i16| numbers[c as usize];
-    let first = (0..middle).map(|k| entries.changed(&[(0, of(1)), (1, of(k))])).collect();
-    spread(&mut entries, phases[0], first);
-    let second = (0..per).flat_map(|a| (0..16).map(move |b| (a, b)));
-    let second = second.map(|(a, b)| entries.changed(&[(0, of(2)), (2, of(a)), (3, of(b))])).collect();
-    spread(&mut entries, phases[1], second);
-    let others = any_highest(&mut entries, 1);
-    let last = entries.and(phases[2], others);
-    let unchanged = entries.unchanged();
-    spread(&mut entries, last, vec![unchanged]);
+    fan_out(&mut entries, middle, per);
+    ask_all(&mut entries, 2);
     entries.0.model.target = entries.never();
     pad(&mut entries);
     entries.0.model
@@ -305,18 +304,16 @@ fn shared_coin(processes: u16, bound: i16) -> ModelData {
     for process in 0..processes {
         let (step, coin) = (1 + 2 * process, 2 + 2 * process);
         let at = [0, 1, 2].map(|c| entries.variable_is(step, c));
-        let flipped = [zero, one].map(|side| (1, entries.changed(&[(step, one), (coin, side)])));
-        entries.command(at[0], flipped.to_vec());
+        let flipped = |side| [(step, one), (coin, side)];
+        entries.command_by_changes(at[0], &[(1, &flipped(zero)), (1, &flipped(one))]);
         for (side, moved) in [(0, down), (1, up)] {
             let side = entries.variable_is(coin, side);
             let guard = entries.and(at[1], side);
-            let state = entries.changed(&[(0, moved), (step, two), (coin, zero)]);
-            entries.command(guard, vec![(2, state)]);
+            entries.command_by_changes(guard, &[(2, &[(0, moved), (step, two), (coin, zero)])]);
         }
         for (truth, next) in [(at_end, three), (on, zero)] {
             let guard = entries.and(at[2], truth);
-            let state = entries.changed(&[(step, next)]);
-            entries.command(guard, vec![(2, state)]);
+            entries.command_by_changes(guard, &[(2, &[(step, next)])]);
         }
     }
     let done: Vec<u16> = (0..processes).map(|process| entries.variable_is(1 + 2 * process, 3)).collect();
@@ -325,78 +322,121 @@ fn shared_coin(processes: u16, bound: i16) -> ModelData {
 }
 
 /// Tokens on a ring (Israeli and Jalfon): a scheduler picks one, which is passed to either
-/// side; two that meet are one. The target is a token in each place of the first half.
+/// side; two that meet are one. The target is that there is none in the first half.
 fn token_ring(places: u16) -> ModelData {
     let mut entries = Entries(Builder::new(2, vec![[0, 1, 1]; places.into()]));
     let [zero, one] = [0, 1].map(|c| entries.constant(c));
     for place in 0..places {
         let here = entries.variable_is(place, 1);
         let to = [(place + 1) % places, (place + places - 1) % places];
-        let passed = to.map(|to| (1, entries.changed(&[(place, zero), (to, one)])));
-        entries.command(here, passed.to_vec());
+        let passed = to.map(|to| [(place, zero), (to, one)]);
+        entries.command_by_changes(here, &[(1, &passed[0]), (1, &passed[1])]);
     }
     let held: Vec<u16> = (0..places / 2).map(|place| entries.variable_is(place, 0)).collect();
     entries.0.model.target = held.into_iter().reduce(|a, b| entries.and(a, b)).expect("some place");
     entries.0.model
 }
 
-/// A file is sent in so many parts over channels that may lose them and what acknowledges
-/// them; each part is sent again so many times. The target: the sender gives up, and cannot
-/// know whether the last part has arrived.
+/// A file that is sent in parts over two channels, which may lose a part and what acknowledges
+/// it. The sender is ready, waits, is done or has given up; a channel is free, has something
+/// or has lost it.
+struct Sending {
+    entries: Entries,
+    /// The last part.
+    last: i16,
+    /// How often a part may be sent again.
+    times: i16,
+}
+
+const SENDER: u16 = 0;
+const PART: u16 = 1;
+const SENT: u16 = 2;
+/// The sender's bit, which is the other one with each part.
+const BIT: u16 = 3;
+const THERE: u16 = 4;
+const BACK: u16 = 5;
+/// The receiver's bit, and whether it has had the last part.
+const SEEN: u16 = 6;
+const HAD: u16 = 7;
+
+impl Sending {
+    fn new(last: i16, times: i16) -> Sending {
+        let mut ranges = vec![[0, 3, 0], [1, last, 1], [0, times, 0]];
+        ranges.extend([[0, 1, 0], [0, 2, 0], [0, 2, 0], [0, 1, 0], [0, 1, 0]]);
+        Sending { entries: Entries(Builder::new(100, ranges)), last, times }
+    }
+
+    fn constants(&mut self) -> [u16; 4] {
+        [0, 1, 2, 3].map(|c| self.entries.constant(c))
+    }
+
+    /// 0 for 1, and 1 for 0.
+    fn other(&mut self, v: u16) -> u16 {
+        let (one, variable) = (self.entries.constant(1), self.entries.variable(v));
+        self.entries.put([3, one, variable, 0])
+    }
+
+    fn send(&mut self) {
+        let [_, one, two, _] = self.constants();
+        let ready = self.entries.variable_is(SENDER, 0);
+        let sent = |to| [(SENDER, one), (THERE, to)];
+        self.entries.command_by_changes(ready, &[(98, &sent(one)), (2, &sent(two))]);
+    }
+
+    /// Takes a part, if it is new, and acknowledges it.
+    fn receive(&mut self) {
+        let [zero, one, two, _] = self.constants();
+        let arrived = self.entries.variable_is(THERE, 1);
+        let [own, its, had] = [BIT, SEEN, HAD].map(|v| self.entries.variable(v));
+        let (is_new, other) = (self.entries.put([8, own, its, 0]), self.other(SEEN));
+        let seen = self.entries.put([7, is_new, other, its]);
+        let is_last = self.entries.variable_is(PART, self.last);
+        let had = self.entries.put([7, is_last, one, had]);
+        let received = |to| [(THERE, zero), (BACK, to), (SEEN, seen), (HAD, had)];
+        self.entries.command_by_changes(arrived, &[(99, &received(one)), (1, &received(two))]);
+    }
+
+    /// The next part, or none after the last.
+    fn go_on(&mut self) {
+        let [zero, _, two, _] = self.constants();
+        let acknowledged = self.entries.variable_is(BACK, 1);
+        let is_last = self.entries.variable_is(PART, self.last);
+        let more = self.entries.not(is_last);
+        let (next, other) = (self.entries.next(PART), self.other(BIT));
+        let guard = self.entries.and(acknowledged, more);
+        let changes = [(SENDER, zero), (PART, next), (SENT, zero), (BIT, other), (BACK, zero)];
+        self.entries.command_by_changes(guard, &[(100, &changes)]);
+        let guard = self.entries.and(acknowledged, is_last);
+        self.entries.command_by_changes(guard, &[(100, &[(SENDER, two), (BACK, zero)])]);
+    }
+
+    /// What was lost is sent again, or the sender gives up.
+    fn send_again(&mut self) {
+        let [zero, _, _, three] = self.constants();
+        let lost = [THERE, BACK].map(|channel| self.entries.variable_is(channel, 2));
+        let lost = self.entries.or(lost[0], lost[1]);
+        let often = self.entries.variable_is(SENT, self.times);
+        let (not_often, again) = (self.entries.not(often), self.entries.next(SENT));
+        let guard = self.entries.and(lost, not_often);
+        self.entries.command_by_changes(
+            guard,
+            &[(100, &[(SENDER, zero), (SENT, again), (THERE, zero), (BACK, zero)])],
+        );
+        let guard = self.entries.and(lost, often);
+        self.entries.command_by_changes(guard, &[(100, &[(SENDER, three), (THERE, zero), (BACK, zero)])]);
+    }
+}
+
+/// The target: the sender has given up the last part, and cannot know whether it arrived.
 fn sent_again(parts: i16, times: i16) -> ModelData {
-    // The sender, the part, how often it was sent, its bit, both channels, the receiver's bit
-    // and whether it has had the last part.
-    let [sender, part, sent, bit, there, back, seen, last] = [0, 1, 2, 3, 4, 5, 6, 7];
-    let mut ranges = vec![[0, 3, 0], [1, parts, 1], [0, times, 0]];
-    ranges.extend([[0, 1, 0], [0, 2, 0], [0, 2, 0], [0, 1, 0], [0, 1, 0]]);
-    let mut entries = Entries(Builder::new(100, ranges));
-    let numbers = [0, 1, 2, 3].map(|c| entries.constant(c));
-    let [zero, one, two, three] = numbers;
-    let flipped = |entries: &mut Entries, v: u16| {
-        let variable = entries.variable(v);
-        entries.put([3, one, variable, 0])
-    };
-    // Sent, or lost.
-    let ready = entries.variable_is(sender, 0);
-    let branches = [(98, one), (2, two)];
-    let branches = branches.map(|(weight, to)| (weight, entries.changed(&[(sender, one), (there, to)])));
-    entries.command(ready, branches.to_vec());
-    // Received, if it is new; acknowledged, which may be lost.
-    let arrived = entries.variable_is(there, 1);
-    let [own, its] = [entries.variable(bit), entries.variable(seen)];
-    let is_new = entries.put([8, own, its, 0]);
-    let other = flipped(&mut entries, seen);
-    let now_seen = entries.put([7, is_new, other, its]);
-    let (at, had) = (entries.variable_is(part, parts), entries.variable(last));
-    let now_had = entries.put([7, at, one, had]);
-    let branches = [(99, one), (1, two)].map(|(weight, to)| {
-        (weight, entries.changed(&[(there, zero), (back, to), (seen, now_seen), (last, now_had)]))
-    });
-    entries.command(arrived, branches.to_vec());
-    // Acknowledged: the next part, or done.
-    let acknowledged = entries.variable_is(back, 1);
-    let not_last = entries.not(at);
-    let (next, other) = (entries.next(part), flipped(&mut entries, bit));
-    let guard = entries.and(acknowledged, not_last);
-    let state = entries.changed(&[(sender, zero), (part, next), (sent, zero), (bit, other), (back, zero)]);
-    entries.command(guard, vec![(100, state)]);
-    let guard = entries.and(acknowledged, at);
-    let state = entries.changed(&[(sender, two), (back, zero)]);
-    entries.command(guard, vec![(100, state)]);
-    // Lost, one way or the other: sent again, or given up.
-    let lost = [there, back].map(|channel| entries.variable_is(channel, 2));
-    let lost = entries.or(lost[0], lost[1]);
-    let often = entries.variable_is(sent, times);
-    let not_often = entries.not(often);
-    let again = entries.next(sent);
-    let guard = entries.and(lost, not_often);
-    let state = entries.changed(&[(sender, zero), (sent, again), (there, zero), (back, zero)]);
-    entries.command(guard, vec![(100, state)]);
-    let guard = entries.and(lost, often);
-    let state = entries.changed(&[(sender, three), (there, zero), (back, zero)]);
-    entries.command(guard, vec![(100, state)]);
-    let given_up = entries.variable_is(sender, 3);
-    entries.0.model.target = entries.and(given_up, at);
+    let mut sending = Sending::new(parts, times);
+    sending.send();
+    sending.receive();
+    sending.go_on();
+    sending.send_again();
+    let mut entries = sending.entries;
+    let (given_up, is_last) = (entries.variable_is(SENDER, 3), entries.variable_is(PART, parts));
+    entries.0.model.target = entries.and(given_up, is_last);
     entries.0.model
 }
 
@@ -414,19 +454,14 @@ fn converters(count: u16, old: i16) -> ModelData {
         let next = entries.constant(((turn + 1) % count) as i16);
         let (is_dead, older) = (entries.variable_is(dead, 1), entries.next(age));
         let alive = entries.not(is_dead);
-        let states = [
-            (997, vec![(0, next), (age, zero)]),
-            (2, vec![(0, next), (age, older)]),
-            (1, vec![(0, next), (age, older), (dead, one)]),
-        ];
         let guard = entries.and(here, alive);
-        let states = states.map(|(weight, changes)| (weight, entries.changed(&changes)));
-        entries.command(guard, states.to_vec());
+        let fresh: &[(u16, u16)] = &[(0, next), (age, zero)];
+        let stale: &[(u16, u16)] = &[(0, next), (age, older)];
+        let died = [(0, next), (age, older), (dead, one)];
+        entries.command_by_changes(guard, &[(997, fresh), (2, stale), (1, &died)]);
         let guard = entries.and(here, is_dead);
-        let states =
-            [(900, vec![(0, next), (age, older)]), (100, vec![(0, next), (age, zero), (dead, zero)])];
-        let states = states.map(|(weight, changes)| (weight, entries.changed(&changes)));
-        entries.command(guard, states.to_vec());
+        let reset = [(0, next), (age, zero), (dead, zero)];
+        entries.command_by_changes(guard, &[(900, stale), (100, &reset)]);
         shown.push(entries.variable_is(age, old));
     }
     entries.0.model.target = shown.into_iter().reduce(|a, b| entries.or(a, b)).expect("some converter");
@@ -435,8 +470,7 @@ fn converters(count: u16, old: i16) -> ModelData {
 
 // ----------------------------------------------------------------------- all
 
-/// Models that were made to keep a builder busy. But for the last two, which have all
-/// combinations of untracked variables to be tried in each node, none takes long.
+/// Models that were made to keep a builder busy.
 pub fn hostile() -> Vec<Filling> {
     let named = |name, model| Filling { name, model };
     vec![
@@ -481,7 +515,8 @@ pub fn in_use() -> Vec<Filling> {
     ]
 }
 
-/// Models of chains in whose nodes all combinations are to be tried, for every guard.
+/// Chains in whose nodes all combinations of untracked variables are to be tried, for every
+/// guard. These take long: whoever builds them bounds the nodes by the slice.
 pub fn combinations() -> Vec<Filling> {
     vec![
         Filling { name: "one set of 12 variables", model: hostile::chain_of_one_set() },
