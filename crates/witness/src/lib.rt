@@ -1,8 +1,8 @@
 // The library's steps, figures and root values against the solver's, and the figure and the build call's answers and rows.
 // Safe and ending on any arguments; its contracts say no more.
+use assembly::BuildAnswer;
 use clamped::add;
 use clamped::sub;
-use assembly::BuildAnswer;
 use folder::Outcome;
 use folder::Refusal;
 use graph::GraphAnswer;
