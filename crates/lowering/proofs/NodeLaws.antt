@@ -25,16 +25,9 @@ use Rattle.graph.specs.Walks.{startsAt}
 use Rattle.sums.specs.Edges.{after, EdgesReady, bestOf}
 use Rattle.sums.specs.Tables.{Tables, Round}
 use Rattle.sums.proofs.EdgeLaws.{up-small}
-use Rattle.sums.proofs.ModelLaws.{edges-ready, best-is, next-starts, best-small}
+use Rattle.sums.proofs.ModelLaws.{best-is, best-small}
+use Rattle.sums.proofs.NodeLaws.{Parts, some-total}
 use Rattle.building.specs.Values.{leastValue}
-
--- What the code reads of the folders once: the size of a node, D, and the bodies of commands, nodes and edges.
-pub record Parts (m g : List ℕ) (size d : ℕ) (cs nb eb : List ℕ) : Type 0 where
-  pub size-is : size ≡ nodeSize (variableCount m)
-  pub total : d ≡ modelOf m .total
-  pub commands : cs ≡ body m 3
-  pub nodes : nb ≡ body g 0
-  pub edges : eb ≡ body g 1
 
 at-pick : (v : ℕ → ℕ) (b : Bool) (x y : ℕ) → pick b (v x) (v y) ≡ v (pick b x y)
 at-pick v true x y = refl
@@ -56,9 +49,6 @@ module _ {m g : List ℕ} (A : Valid m g) where
   abbrev G : Simulation
   G = simulationOf M g
 
-  pub some-total : 0 < M .total
-  some-total = omega (arith, A .model .model .total)
-
   pub source-in : (n : ℕ) → n < G .nodes → source G n < G .nodes
   source-in n l = go (ℕ-discrete (G .kind n) 2)
     where
@@ -71,7 +61,7 @@ module _ {m g : List ℕ} (A : Valid m g) where
   least-small row R n l =
       rw (least-is M G (λ k. getD row k 0) n)
       (pick-all (λ (x : ℕ). x ≤ units) (eqb (G .kind n) 1)
-      (omega (arith, up-small (M .total) (greatest (G .edges n) (λ e _. along (mdp M) (graph G) (λ k. getD row k 0) n e)) units some-total (best-small m g (A .model .model) n (A .rows .content .edges n l) row R)))
+      (omega (arith, up-small (M .total) (greatest (G .edges n) (λ e _. along (mdp M) (graph G) (λ k. getD row k 0) n e)) units (some-total A) (best-small m g (A .model .model) n (A .rows .content .edges n l) row R)))
       (R .small (source G n) (source-in n l)))
 
   module _ {size d : ℕ} {cs nb eb : List ℕ} (P : Parts m g size d cs nb eb) where
@@ -79,18 +69,7 @@ module _ {m g : List ℕ} (A : Valid m g) where
     from-in {n} l k c s = rw (s, k, c, P .size-is, P .nodes) (source-in n l)
 
     module _ {weights firsts : List ℕ} (T : Tables M weights firsts) {n at count : ℕ} (l : n < G .nodes) (a : at ≡ startsAt M g n) (q : count ≡ field size nb n 4) where
-      pub node-ready : (nodes : ℕ) → G .nodes ≤ nodes → EdgesReady cs eb weights firsts nodes at count
-      node-ready nodes k = rw (P .commands, P .edges, a, q, P .size-is, P .nodes) (edges-ready m g (A .model .model) T n (A .rows .content .edges n l) nodes k)
-
-      pub node-next : {k : ℕ} → k ≡ after cs eb at count → k ≡ startsAt M g (n + 1)
-      node-next p = p ∙ rw (P .commands, P .edges, a, q, P .size-is, P .nodes) (next-starts m g (A .model .model) T n (A .rows .content .edges n l))
-
       module _ (row : List ℕ) {best : ℕ} (b : best ≡ bestOf cs eb weights firsts row at count) where
-        pub node-small : Round (G .nodes) row → best ≤ d * units
-        node-small S =
-            rw (b, P .total, P .commands, P .edges, a, q, P .size-is, P .nodes, best-is m g (A .model .model) T n (A .rows .content .edges n l) row)
-            (best-small m g (A .model .model) n (A .rows .content .edges n l) row S)
-
         pub node-value : {kind cover from x : ℕ} → kind ≡ field size nb n 0 → cover ≡ field size nb n 1 → from ≡ pick (eqb kind 2) cover n
             → x ≡ pick (eqb kind 1) (roundedUp best d) (getD row from 0) → x ≡ leastValue M G (λ k. getD row k 0) n
         node-value k c s p =

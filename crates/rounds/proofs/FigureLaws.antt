@@ -26,7 +26,7 @@ use Rattle.rounds.specs.Rounds.{source, ownStart, ownNext, nextRound}
 use Rattle.rounds.proofs.RoundLaws.{own-start, own-next, shared-source}
 use Rattle.sums.proofs.EdgeLaws.{up-small}
 use Rattle.sums.proofs.ModelLaws.{best-small}
-use Rattle.rounds.proofs.NodeLaws.{some-total}
+use Rattle.sums.proofs.NodeLaws.{some-total}
 use Rattle.rounds.proofs.CoverLaws.{source-in}
 
 figure-by-small : (kind best d : ℕ) → 0 < d → best ≤ d * units → figureBy kind best d ≤ units

@@ -16,16 +16,9 @@ use Rattle.graph.specs.Walks.{startsAt}
 use Rattle.sums.specs.Edges.{after, EdgesReady, bestOf}
 use Rattle.sums.specs.Tables.{Tables, Round, figureBy}
 use Rattle.rounds.specs.Rounds.{ownNext, nodesOf, Shaped}
-use Rattle.sums.proofs.ModelLaws.{edges-ready, best-is, next-starts, best-small}
+use Rattle.sums.proofs.ModelLaws.{best-is}
+use Rattle.sums.proofs.NodeLaws.{Parts}
 use Rattle.rounds.proofs.RoundLaws.{own-next}
-
--- What the code reads of the folders once: the size of a node, D, and the bodies of commands, nodes and edges.
-pub record Parts (m g : List ℕ) (size d : ℕ) (cs nb eb : List ℕ) : Type 0 where
-  pub size-is : size ≡ nodeSize (variableCount m)
-  pub total : d ≡ modelOf m .total
-  pub commands : cs ≡ body m 3
-  pub nodes : nb ≡ body g 0
-  pub edges : eb ≡ body g 1
 
 module _ {m g : List ℕ} (A : Valid m g) where
   abbrev M : Model
@@ -39,23 +32,9 @@ module _ {m g : List ℕ} (A : Valid m g) where
       let k : nodes ≡ nodesOf m g = e ∙ rw (p, q) refl in
       record { size-is = p; nodes-are = k; small = omega (arith, limits (A .model .folder) .variables); few = omega (arith, k, A .rows .folder .few) }
 
-  pub some-total : 0 < M .total
-  some-total = omega (arith, A .model .model .total)
-
   module _ {size d : ℕ} {cs nb eb : List ℕ} (P : Parts m g size d cs nb eb) {weights firsts : List ℕ} (T : Tables M weights firsts) where
     module _ {n at count : ℕ} (l : n < G .nodes) (a : at ≡ startsAt M g n) (q : count ≡ field size nb n 4) where
-      pub node-ready : (nodes : ℕ) → G .nodes ≤ nodes → EdgesReady cs eb weights firsts nodes at count
-      node-ready nodes k = rw (P .commands, P .edges, a, q, P .size-is, P .nodes) (edges-ready m g (A .model .model) T n (A .rows .content .edges n l) nodes k)
-
-      pub node-next : {k : ℕ} → k ≡ after cs eb at count → k ≡ startsAt M g (n + 1)
-      node-next p = p ∙ rw (P .commands, P .edges, a, q, P .size-is, P .nodes) (next-starts m g (A .model .model) T n (A .rows .content .edges n l))
-
       module _ (row : List ℕ) {best : ℕ} (b : best ≡ bestOf cs eb weights firsts row at count) where
-        pub node-small : Round (G .nodes) row → best ≤ d * units
-        node-small S =
-            rw (b, P .total, P .commands, P .edges, a, q, P .size-is, P .nodes, best-is m g (A .model .model) T n (A .rows .content .edges n l) row)
-            (best-small m g (A .model .model) n (A .rows .content .edges n l) row S)
-
         pub node-figure : {kind f : ℕ} → kind ≡ field size nb n 0 → f ≡ figureBy kind best d → f ≡ ownNext M G row n
         node-figure k p =
             p ∙ rw (k, b, P .total, P .commands, P .edges, a, q, P .size-is, P .nodes, best-is m g (A .model .model) T n (A .rows .content .edges n l) row)

@@ -1,3 +1,4 @@
 pub mod EdgeLaws
 pub mod ModelLaws
 pub mod TableLaws
+pub mod NodeLaws

@@ -7,7 +7,8 @@ use Rattle.graph.specs.Simulation.{nodeSize}
 use Rattle.graph.specs.Walks.{startsAt}
 use Rattle.graph.proofs.EdgePlaces.{place-none}
 use Rattle.lowering.specs.Sweeps.{nodesOf}
-use Rattle.lowering.proofs.NodeLaws.{Parts, some-total, from-in, node-ready, node-next, node-small, node-value}
+use Rattle.sums.proofs.NodeLaws.{Parts, some-total, node-ready, node-next, node-small}
+use Rattle.lowering.proofs.NodeLaws.{from-in, node-value}
 use Rattle.lowering.proofs.SweepLaws.{Sweeping, sweep-start, sweep-next, sweep-over, still-over}
 use borrow.Author.Needs.{needs}
 use Rattle.lowering.proofs.sweep.Statement.{statement}

@@ -1,6 +1,7 @@
 use denote.Ref.{now}
 use Rattle.folder.proofs.FillLaws.{Filled, fill-start, fill-next, fill-over}
-use Rattle.rounds.proofs.NodeLaws.{Parts, some-total, node-ready, node-next, node-small, node-figure}
+use Rattle.sums.proofs.NodeLaws.{Parts, some-total, node-ready, node-next, node-small}
+use Rattle.rounds.proofs.NodeLaws.{node-figure}
 use Prim.Native.Nat.{_<_, _-_}
 use mathlib.Core.Path.{_≡_, sym}
 use Rattle.model.specs.Model.{modelOf}
