@@ -2,6 +2,8 @@
 use builder::Size;
 use folder::Outcome;
 use folder::Refusal;
+use graph::LEAST_BYTES;
+use graph::MOST_BYTES;
 use graph::MOST_NODES;
 ghost use mathlib.Core.Path.{_≡_};
 ghost use mathlib.Core.List.{List, _++_};
@@ -31,10 +33,6 @@ pub enum BuildAnswer {
     Built(usize),
     Refused(Refusal),
 }
-
-const LEAST_BYTES: usize = 16;
-
-const MOST_BYTES: usize = 1048576;
 
 const MOST_ROUNDS: usize = 1000;
 

@@ -32,15 +32,15 @@ use Rattle.work.specs.declared.Work.{Work}
 use Rattle.work.specs.Working.{limitOf, graphIn, Lent, Known, Working, Looked, ToMake, Ready, Made, Grown}
 
 -- What the loop holds: a move that can be made, or none, and what of the bytes stays.
-pub record Growing (m masks : List ℕ) (longest least : ℕ) (nb₀ marks₀ reaches₀ : List ℕ) (w : Work) (nb marks reaches : List ℕ) (mv : Option Move) : Type 0 where
-  pub ready : Ready m masks longest w nb marks reaches mv
+pub record Growing (m : List ℕ) (longest least : ℕ) (nb₀ marks₀ reaches₀ : List ℕ) (w : Work) (nb marks reaches : List ℕ) (mv : Option Move) : Type 0 where
+  pub ready : Ready m longest w nb marks reaches mv
   pub stays : Stays 0 (nodeSize (variableCount m) * w .nodes) nb₀ nb
   pub marks-long : length marks ≡ length marks₀
   pub reaches-long : length reaches ≡ length reaches₀
   pub grows : least ≤ w .nodes
 
 -- ---- a look at the next move leaves it ready
-module _ {m masks : List ℕ} {longest : ℕ} {w : Work} {nb marks reaches : List ℕ} (W : Working m masks longest w nb marks reaches)
+module _ {m : List ℕ} {longest : ℕ} {w : Work} {nb marks reaches : List ℕ} (W : Working m longest w nb marks reaches)
     {new : List ℕ} (marks′ : List ℕ) {mv : Option Move} (next : mv ≡ nextMove (modelOf m) (limitOf longest) (graphIn m w nb)) (looked : Looked m w nb new)
     (to-make : ToMake m w new marks′ mv) (long : length marks′ ≡ length marks) where
   abbrev M : Model
@@ -49,16 +49,12 @@ module _ {m masks : List ℕ} {longest : ℕ} {w : Work} {nb marks reaches : Lis
   along : (P : Building → Type 0) → P (graphIn m w nb) → P (graphIn m w new)
   along P h = subst P (sym (looked .held)) h
 
-  pub ready-after : Ready m masks longest w new marks′ reaches mv
+  pub ready-after : Ready m longest w new marks′ reaches mv
   ready-after = record {
-    standing = record {
-      held = record {
-        model = W .standing .held .model;
-        kept = along (λ (B : Building). Kept M mostNodes B) (W .standing .held .kept);
-        long = omega (arith, W .standing .held .long, looked .stays .long);
-      };
-      masked = W .standing .masked;
-      read = looked .read;
+    held = record {
+      model = W .held .model;
+      kept = along (λ (B : Building). Kept M mostNodes B) (W .held .kept);
+      long = omega (arith, W .held .long, looked .stays .long);
     };
     reached = along (λ (B : Building). Reached M (limitOf longest) B) (W .reached);
     lent = record {
@@ -68,6 +64,7 @@ module _ {m masks : List ℕ} {longest : ℕ} {w : Work} {nb marks reaches : Lis
       limit = W .lent .limit;
     };
     next = next ∙ ap (nextMove M (limitOf longest)) (sym (looked .held));
+    read = looked .read;
     parents = subst (λ (f : ℕ → ℕ). ParentRight M (graphIn m w new) f) (λ i x. sym (looked .parents x) i) (along (λ (B : Building). ParentRight M B (parentIn m nb)) (W .known .parents));
     settled = along (λ (B : Building). Settled M B (w .fresh)) (W .known .settled);
     covering = along (λ (B : Building). ReachRight M B (rowIn reaches)) (W .known .covering);
@@ -82,9 +79,9 @@ module _ {m masks : List ℕ} {longest : ℕ} {w : Work} {nb marks reaches : Lis
 stays-join : {a b : ℕ} {old mid new : List ℕ} → a ≤ b → Stays 0 a old mid → Stays 0 b mid new → Stays 0 b old new
 stays-join l s t = record { long = t .long ∙ s .long; below = λ j h. absurd (omega arith); past = λ j h. t .past j h ∙ s .past j (omega arith) }
 
-pub grow-start : {m masks : List ℕ} {longest : ℕ} {w : Work} {nb marks reaches : List ℕ} → Working m masks longest w nb marks reaches → {new : List ℕ} (marks′ : List ℕ) {mv : Option Move}
+pub grow-start : {m : List ℕ} {longest : ℕ} {w : Work} {nb marks reaches : List ℕ} → Working m longest w nb marks reaches → {new : List ℕ} (marks′ : List ℕ) {mv : Option Move}
     → mv ≡ nextMove (modelOf m) (limitOf longest) (graphIn m w nb) → Looked m w nb new → ToMake m w new marks′ mv → length marks′ ≡ length marks
-    → Growing m masks longest (w .nodes) new marks′ reaches w new marks′ reaches mv
+    → Growing m longest (w .nodes) new marks′ reaches w new marks′ reaches mv
 grow-start {w = w} W {new} marks′ next looked to-make long = record {
   ready = ready-after W marks′ next looked to-make long;
   stays = stays-none 0 _ new;
@@ -93,10 +90,10 @@ grow-start {w = w} W {new} marks′ next looked to-make long = record {
   grows = omega arith;
 }
 
-module _ {m masks : List ℕ} {longest least : ℕ} {nb₀ marks₀ reaches₀ : List ℕ} {w : Work} {nb marks reaches : List ℕ} {mv : Option Move} (G : Growing m masks longest least nb₀ marks₀ reaches₀ w nb marks reaches mv) where
-  module _ {w′ : Work} {nb′ marks′ reaches′ : List ℕ} (made : Made m masks longest w nb mv w′ nb′ marks′ reaches′) (marks-same : length marks′ ≡ length marks) (reaches-same : length reaches′ ≡ length reaches)
+module _ {m : List ℕ} {longest least : ℕ} {nb₀ marks₀ reaches₀ : List ℕ} {w : Work} {nb marks reaches : List ℕ} {mv : Option Move} (G : Growing m longest least nb₀ marks₀ reaches₀ w nb marks reaches mv) where
+  module _ {w′ : Work} {nb′ marks′ reaches′ : List ℕ} (made : Made m longest w nb mv w′ nb′ marks′ reaches′) (marks-same : length marks′ ≡ length marks) (reaches-same : length reaches′ ≡ length reaches)
       {new : List ℕ} (marks″ : List ℕ) {mv′ : Option Move} (next : mv′ ≡ nextMove (modelOf m) (limitOf longest) (graphIn m w′ nb′)) (looked : Looked m w′ nb′ new) (to-make : ToMake m w′ new marks″ mv′) (long : length marks″ ≡ length marks′) where
-    pub grow-next : Growing m masks longest least nb₀ marks₀ reaches₀ w′ new marks″ reaches′ mv′
+    pub grow-next : Growing m longest least nb₀ marks₀ reaches₀ w′ new marks″ reaches′ mv′
     grow-next = record {
       ready = ready-after (made .working) marks″ next looked to-make long;
       stays = stays-join (mul-le-mul-left (nodeSize (variableCount m)) (made .grows)) (G .stays) (stays-join (omega arith) (made .stays) (looked .stays));
@@ -112,7 +109,7 @@ module _ {m masks : List ℕ} {longest least : ℕ} {nb₀ marks₀ reaches₀ :
         go : (o : Option Move) → mv ≡ o → there o ≡ true → measure (modelOf m) (limitOf longest) (moved (modelOf m) mv (graphIn m w nb)) < measure (modelOf m) (limitOf longest) (graphIn m w nb)
         go none e t = absurd (false≢true t)
         go (some a) e t =
-            let S = G .ready .standing .held in
+            let S = G .ready .held in
             rw e (falls (modelOf m) (limitOf longest) (graphIn m w nb) (S .kept) a (next-apt (modelOf m) (limitOf longest) (S .model .model) (graphIn m w nb) (S .kept) a (sym (sym e ∙ G .ready .next))))
 
   -- From the first look on.
@@ -129,7 +126,7 @@ module _ {m masks : List ℕ} {longest least : ℕ} {nb₀ marks₀ reaches₀ :
         go (some a) e t = absurd (false≢true (sym t))
 
     pub grown-built : heldIn m (w .nodes) nb ≡ built (modelOf m) (limitOf longest)
-    grown-built = reached-built (modelOf m) (limitOf longest) (G .ready .standing .held .model .model) (omega arith) (G .ready .reached) (sym (G .ready .next) ∙ none-left)
+    grown-built = reached-built (modelOf m) (limitOf longest) (G .ready .held .model .model) (omega arith) (G .ready .reached) (sym (G .ready .next) ∙ none-left)
 
     pub grown : Grown m longest (w .nodes) (w .len) nb
-    grown = record { held = G .ready .standing .held; counted = G .ready .lent .counted; short = G .ready .lent .short; lent = G .ready .lent .lent; limit = G .ready .lent .limit }
+    grown = record { held = G .ready .held; counted = G .ready .lent .counted; short = G .ready .lent .short; lent = G .ready .lent .lent; limit = G .ready .lent .limit }

@@ -54,9 +54,9 @@ module _ {m : List ℕ} (valid : Valid m) {vars longest : ℕ} (v : vars ≡ var
     begun : Begun (variableCount m) (body m 1) (stateField + variableCount m + 1) nb new
     begun = rw (← v, ← p) b
 
-    pub started : longest ≤ mostBytes → {masks marks reaches : List ℕ} → MasksOf m masks → Blank marks → Blank reaches → (w : Work) → w .nodes ≡ 1 → w .len ≡ leastBytes + nodeSize vars
-        → w .fresh ≡ mostNodes → w .low ≡ 0 → w .high ≡ 0 → w .next ≡ 0 → Working m masks longest w new marks reaches
-    started limit masks marks reaches w one len = working m valid nb new begun longest room lent limit masks marks reaches w one (len ∙ ap (λ (k : ℕ). leastBytes + nodeSize k) v)
+    pub started : longest ≤ mostBytes → {marks reaches : List ℕ} → Blank marks → Blank reaches → (w : Work) → w .nodes ≡ 1 → w .len ≡ leastBytes + nodeSize vars
+        → w .fresh ≡ mostNodes → w .low ≡ 0 → w .high ≡ 0 → w .next ≡ 0 → Working m longest w new marks reaches
+    started limit marks reaches w one len = working m valid nb new begun longest room lent limit marks reaches w one (len ∙ ap (λ (k : ℕ). leastBytes + nodeSize k) v)
 
     pub all-stays : {nodes len : ℕ} {end : List ℕ} → Grown m longest nodes len end → Stays 0 (nodeSize (variableCount m) * nodes) new end → Stays 0 (nodeSize (variableCount m) * nodes) nb end
     all-stays {nodes} g s = record {

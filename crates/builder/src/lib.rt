@@ -1,5 +1,6 @@
 // Document 02, 2.5: the moves made, one after the other, until there is none.
 use expressions::MOST_EXPRESSIONS;
+use graph::LEAST_BYTES;
 use graph::MOST_NODES;
 use work::Work;
 ghost use mathlib.Core.Path.{_≡_};
@@ -13,10 +14,8 @@ ghost use Rattle.graph.specs.Simulation.{nodeSize};
 ghost use Rattle.building.specs.Built.{built};
 ghost use Rattle.put.specs.Put.{Stays};
 ghost use Rattle.held.specs.Held.{heldIn};
+ghost use Rattle.wants.specs.Wants.{MasksOf};
 ghost use Rattle.work.specs.Working.{limitOf, Working, Grown};
-
-// The contents stand before the node records.
-const LEAST_BYTES: usize = 16;
 
 // How many nodes and bytes a graph comes to.
 pub struct Size {
@@ -34,7 +33,8 @@ fn grow(
     longest: usize,
     start: Work,
 ) -> Size
-    requires { ⌜ Working (now m) (now masks) longest start (now nb) (now marks) (now reaches) ⌝ }
+    requires { ⌜ MasksOf (now m) (now masks) ⌝ }
+    requires { ⌜ Working (now m) longest start (now nb) (now marks) (now reaches) ⌝ }
     ensures { λ r. ⌜ heldIn (now (m .entry)) (r .nodes) (now (nb .exit)) ≡ built (modelOf (now (m .entry))) (limitOf longest) ⌝ }
     ensures { λ r. ⌜ Grown (now (m .entry)) longest (r .nodes) (r .len) (now (nb .exit)) ⌝ }
     ensures { λ r. ⌜ Stays 0 (nodeSize (variableCount (now (m .entry))) * (r .nodes)) (now (nb .entry)) (now (nb .exit)) ⌝ }
@@ -42,7 +42,7 @@ fn grow(
     let mut w = start;
     let mut mv = growth::next_move(m, nb, masks, marks, longest, w);
     while repairs::is_move(mv) {
-        w = making::make(m, nb, masks, marks, reaches, longest, w, mv);
+        w = making::make(m, nb, marks, reaches, longest, w, mv);
         mv = growth::next_move(m, nb, masks, marks, longest, w);
     }
     Size {

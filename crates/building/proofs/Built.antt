@@ -29,7 +29,7 @@ module _ (M : Model) (X : ModelRight M) (P : Limit) (some : 1 ≤ P .most) where
   Z = asSimulation M B (λ n. 0)
 
   pub commands-known : (n : ℕ) → n < Z .nodes → (e : ℕ) → e < Z .edges n → Z .command n e < M .commands
-  commands-known n l e h = content-right M P B K F (λ n. 0) (λ n. omega arith) .edges n l e h .command
+  commands-known n l e h = content-right M P B K (λ n. 0) (λ n. omega arith) .edges n l e h .command
 
   -- No value rises from round to round.
   pub values-fall : (k n : ℕ) → valuesOf M B (suc k) n ≤ valuesOf M B k n
@@ -45,6 +45,6 @@ module _ (M : Model) (X : ModelRight M) (P : Limit) (some : 1 ≤ P .most) where
     built-accepted = record {
       some = K .some;
       few = K .few;
-      content = content-right M P B K F (valuesOf M B k) (rounds-le M X Z commands-known k);
+      content = content-right M P B K (valuesOf M B k) (rounds-le M X Z commands-known k);
       rules = rules-right M P B K F (valuesOf M B k) value-right;
     }

@@ -94,7 +94,8 @@ implied : (a b : Bool) → implies a b ≡ true → a ≡ true → b ≡ true
 implied true b e h = e
 implied false b e h = absurd (false≢true h)
 
-module _ (M : Model) (P : Limit) (B : Building) (K : Kept M (P .most) B) (F : Mended M B) (value : ℕ → ℕ) where
+-- ---- what every move keeps is enough for
+module _ (M : Model) (P : Limit) (B : Building) (K : Kept M (P .most) B) (value : ℕ → ℕ) where
   abbrev G : Simulation
   G = asSimulation M B value
 
@@ -111,80 +112,16 @@ module _ (M : Model) (P : Limit) (B : Building) (K : Kept M (P .most) B) (F : Me
   pub a1 : (n : ℕ) → RightA1 M G n
   a1 n v l t = label-is n v l t
 
-  -- ---- what wants nothing reads known
-  read-truth : (n : ℕ) → n < B .nodes → (e : ℕ) → truthWants M B n e ≡ none → truthOf M G n e ≡ knownTruth (truthIn (M .entries) (B .state n) e)
-  read-truth n l e h = reads-truth M B n (K .small n l) (K .states n l) value e ∙ truth-none M B n (K .small n l) (K .states n l) e h
-
-  read-number : (n : ℕ) → n < B .nodes → (e : ℕ) → numberWants M B n e ≡ none → numberOf M G n e ≡ Known (numberIn (M .entries) (B .state n) e)
-  read-number n l e h = reads-number M B n (K .small n l) (K .states n l) value e ∙ number-none M B n (K .small n l) (K .states n l) e h
-
-  -- ---- what an expanded node, a target and a covered node want
-  module _ (n : ℕ) (l : n < B .nodes) (k : B .kind n ≡ Kind.expanded) where
-    wants-none : expandedWants M B n ≡ none
-    wants-none = onward-none (expandedWants M B n) (λ v. track n v) (ap (repairAs M B n) (sym k) ∙ F n l)
-
-    guards-none : guardsWant M B n ≡ none
-    guards-none = orelse-none (guardsWant M B n) (truthWants M B n (M .target) orelse resultsWant M B n) wants-none .0
-
-    later-none : (truthWants M B n (M .target) ≡ none) × (resultsWant M B n ≡ none)
-    later-none = orelse-none (truthWants M B n (M .target)) (resultsWant M B n) (orelse-none (guardsWant M B n) (truthWants M B n (M .target) orelse resultsWant M B n) wants-none .1)
-
-    guard-read : (c : ℕ) → c < M .commands → truthOf M G n (M .guard c) ≡ knownTruth (enabled M (B .state n) c)
-    unfolding guardsWant
-    guard-read c h = read-truth n l (M .guard c) (first-none (M .commands) (λ c. truthWants M B n (M .guard c)) guards-none c h)
-
-    target-read : truthOf M G n (M .target) ≡ False
-    target-read = read-truth n l (M .target) (later-none .0) ∙ ap knownTruth (K .parents n l k .no-target)
-
-    result-read : (c : ℕ) → c < M .commands → enabled M (B .state n) c ≡ true → (b : ℕ) → b < M .branches c → (v : ℕ) → v < M .variables → hasBit (B .tracked (childBy M B n c b)) v ≡ true
-        → numberOf M G n (M .assigned (firstRecord M c + b) v) ≡ Known (numberIn (M .entries) (B .state n) (M .assigned (firstRecord M c + b) v))
-    unfolding resultsWant resultWants
-    result-read c h e b q v p t =
-        let x = given-none (enabled M (B .state n) c) (first (M .branches c) (resultWants M B n c)) (first-none (M .commands) (λ c. given (enabled M (B .state n) c) (first (M .branches c) (resultWants M B n c))) (later-none .1) c h) e in
-        let y = first-none (M .branches c) (resultWants M B n c) x b q in
-        let z = first-none (M .variables) (λ v. given (hasBit (B .tracked (childBy M B n c b)) v) (numberWants M B n (M .assigned (firstRecord M c + b) v))) y v p in
-        read-number n l (M .assigned (firstRecord M c + b) v) (given-none (hasBit (B .tracked (childBy M B n c b)) v) (numberWants M B n (M .assigned (firstRecord M c + b) v)) z t)
-
-  reached-read : (n : ℕ) → n < B .nodes → B .kind n ≡ Kind.target → truthOf M G n (M .target) ≡ True
-  reached-read n l k =
-      read-truth n l (M .target) (onward-none (truthWants M B n (M .target)) (λ v. track n v) (ap (repairAs M B n) (sym k) ∙ F n l))
-      ∙ ap knownTruth (K .targets n l k)
-
+  -- ---- C3
   module _ (n : ℕ) (l : n < B .nodes) (k : B .kind n ≡ Kind.covered) where
-    cover-none : (covered M B n ≡ true) × (pick (adopted M B n) none (some (adopt n)) ≡ none)
-    cover-none = pick-none (covered M B n) (pick (adopted M B n) none (some (adopt n))) (drop n) (ap (repairAs M B n) (sym k) ∙ F n l)
-
-    cover-agrees : (v : ℕ) → v < M .variables → hasBit (B .tracked (B .cover n)) v ≡ true → valueOf (B .state (B .cover n)) v ≡ valueOf (B .state n) v
-    unfolding agrees
-    cover-agrees v h t = eqZ-is _ _ (implied (hasBit (B .tracked (B .cover n)) v) (eqZ (valueOf (B .state (B .cover n)) v) (valueOf (B .state n) v)) (all-true (λ v. implies (hasBit (B .tracked (B .cover n)) v) (eqZ (valueOf (B .state (B .cover n)) v) (valueOf (B .state n) v))) (M .variables) (cover-none .0) v h) t)
-
-    cover-tracked : (v : ℕ) → v < M .variables → hasBit (B .tracked (B .cover n)) v ≡ true → hasBit (B .tracked n) v ≡ true
-    unfolding adopted
-    cover-tracked v h t = implied (hasBit (B .tracked (B .cover n)) v) (hasBit (B .tracked n) v) (all-true (λ v. implies (hasBit (B .tracked (B .cover n)) v) (hasBit (B .tracked n) v)) (M .variables) (pick-none (adopted M B n) none (adopt n) (cover-none .1) .0) v h) t
-
     cover-is : G .cover n ≡ B .cover n
     cover-is = rw k refl
 
-    -- ---- C3, C1, C2
     cover-there : (G .cover n < G .nodes) × (G .kind (G .cover n) ≢ 2)
     cover-there = rw cover-is (K .covers n l k .there, open-not-covered (B .kind (B .cover n)) (K .covers n l k .opened))
 
-    cover-same : (v : ℕ) → v < M .variables → tracks G (B .cover n) v ≡ true → valueOf (B .state n) v ≡ G .label (B .cover n) v
-    cover-same v h t = sym (cover-agrees v h t) ∙ sym (label-is (B .cover n) v h t)
-
-    cover-adopted : (v : ℕ) → v < M .variables → tracks G (B .cover n) v ≡ true → (tracks G n v ≡ true) × (G .label n v ≡ G .label (B .cover n) v)
-    cover-adopted v h t =
-        let u : tracks G n v ≡ true = cover-tracked v h t in
-        (u, label-is n v h u ∙ cover-same v h t)
-
   pub c3 : (n : ℕ) → n < G .nodes → RightC3 M G n
   c3 n l e = cover-there n l (number-covered (B .kind n) e)
-
-  pub c1 : (n : ℕ) → n < G .nodes → RightC1 M G n
-  c1 n l e = let k = number-covered (B .kind n) e in rw (cover-is n l k) (cover-same n l k)
-
-  pub c2 : (n : ℕ) → n < G .nodes → RightC2 M G n
-  c2 n l e = let k = number-covered (B .kind n) e in rw (cover-is n l k) (cover-adopted n l k)
 
   -- ---- an expanded node's edges
   module _ (n : ℕ) (l : n < B .nodes) (k : B .kind n ≡ Kind.expanded) where
@@ -234,32 +171,103 @@ module _ (M : Model) (P : Limit) (B : Building) (K : Kept M (P .most) B) (F : Me
     initial = state-is 0 (K .some) ∙ K .root;
   }
 
+-- ---- where no rule is broken
+module _ (M : Model) (P : Limit) (B : Building) (K : Kept M (P .most) B) (F : Mended M B) (value : ℕ → ℕ) where
+  abbrev H : Simulation
+  H = asSimulation M B value
+
+  -- ---- what wants nothing reads known
+  read-truth : (n : ℕ) → n < B .nodes → (e : ℕ) → truthWants M B n e ≡ none → truthOf M H n e ≡ knownTruth (truthIn (M .entries) (B .state n) e)
+  read-truth n l e h = reads-truth M B n (K .small n l) (K .states n l) value e ∙ truth-none M B n (K .small n l) (K .states n l) e h
+
+  read-number : (n : ℕ) → n < B .nodes → (e : ℕ) → numberWants M B n e ≡ none → numberOf M H n e ≡ Known (numberIn (M .entries) (B .state n) e)
+  read-number n l e h = reads-number M B n (K .small n l) (K .states n l) value e ∙ number-none M B n (K .small n l) (K .states n l) e h
+
+  -- ---- what an expanded node, a target and a covered node want
+  module _ (n : ℕ) (l : n < B .nodes) (k : B .kind n ≡ Kind.expanded) where
+    wants-none : expandedWants M B n ≡ none
+    wants-none = onward-none (expandedWants M B n) (λ v. track n v) (ap (repairAs M B n) (sym k) ∙ F n l)
+
+    guards-none : guardsWant M B n ≡ none
+    guards-none = orelse-none (guardsWant M B n) (truthWants M B n (M .target) orelse resultsWant M B n) wants-none .0
+
+    later-none : (truthWants M B n (M .target) ≡ none) × (resultsWant M B n ≡ none)
+    later-none = orelse-none (truthWants M B n (M .target)) (resultsWant M B n) (orelse-none (guardsWant M B n) (truthWants M B n (M .target) orelse resultsWant M B n) wants-none .1)
+
+    guard-read : (c : ℕ) → c < M .commands → truthOf M H n (M .guard c) ≡ knownTruth (enabled M (B .state n) c)
+    unfolding guardsWant
+    guard-read c h = read-truth n l (M .guard c) (first-none (M .commands) (λ c. truthWants M B n (M .guard c)) guards-none c h)
+
+    target-read : truthOf M H n (M .target) ≡ False
+    target-read = read-truth n l (M .target) (later-none .0) ∙ ap knownTruth (K .parents n l k .no-target)
+
+    result-read : (c : ℕ) → c < M .commands → enabled M (B .state n) c ≡ true → (b : ℕ) → b < M .branches c → (v : ℕ) → v < M .variables → hasBit (B .tracked (childBy M B n c b)) v ≡ true
+        → numberOf M H n (M .assigned (firstRecord M c + b) v) ≡ Known (numberIn (M .entries) (B .state n) (M .assigned (firstRecord M c + b) v))
+    unfolding resultsWant resultWants
+    result-read c h e b q v p t =
+        let x = given-none (enabled M (B .state n) c) (first (M .branches c) (resultWants M B n c)) (first-none (M .commands) (λ c. given (enabled M (B .state n) c) (first (M .branches c) (resultWants M B n c))) (later-none .1) c h) e in
+        let y = first-none (M .branches c) (resultWants M B n c) x b q in
+        let z = first-none (M .variables) (λ v. given (hasBit (B .tracked (childBy M B n c b)) v) (numberWants M B n (M .assigned (firstRecord M c + b) v))) y v p in
+        read-number n l (M .assigned (firstRecord M c + b) v) (given-none (hasBit (B .tracked (childBy M B n c b)) v) (numberWants M B n (M .assigned (firstRecord M c + b) v)) z t)
+
+  reached-read : (n : ℕ) → n < B .nodes → B .kind n ≡ Kind.target → truthOf M H n (M .target) ≡ True
+  reached-read n l k =
+      read-truth n l (M .target) (onward-none (truthWants M B n (M .target)) (λ v. track n v) (ap (repairAs M B n) (sym k) ∙ F n l))
+      ∙ ap knownTruth (K .targets n l k)
+
+  module _ (n : ℕ) (l : n < B .nodes) (k : B .kind n ≡ Kind.covered) where
+    cover-none : (covered M B n ≡ true) × (pick (adopted M B n) none (some (adopt n)) ≡ none)
+    cover-none = pick-none (covered M B n) (pick (adopted M B n) none (some (adopt n))) (drop n) (ap (repairAs M B n) (sym k) ∙ F n l)
+
+    cover-agrees : (v : ℕ) → v < M .variables → hasBit (B .tracked (B .cover n)) v ≡ true → valueOf (B .state (B .cover n)) v ≡ valueOf (B .state n) v
+    unfolding agrees
+    cover-agrees v h t = eqZ-is _ _ (implied (hasBit (B .tracked (B .cover n)) v) (eqZ (valueOf (B .state (B .cover n)) v) (valueOf (B .state n) v)) (all-true (λ v. implies (hasBit (B .tracked (B .cover n)) v) (eqZ (valueOf (B .state (B .cover n)) v) (valueOf (B .state n) v))) (M .variables) (cover-none .0) v h) t)
+
+    cover-tracked : (v : ℕ) → v < M .variables → hasBit (B .tracked (B .cover n)) v ≡ true → hasBit (B .tracked n) v ≡ true
+    unfolding adopted
+    cover-tracked v h t = implied (hasBit (B .tracked (B .cover n)) v) (hasBit (B .tracked n) v) (all-true (λ v. implies (hasBit (B .tracked (B .cover n)) v) (hasBit (B .tracked n) v)) (M .variables) (pick-none (adopted M B n) none (adopt n) (cover-none .1) .0) v h) t
+
+    -- ---- C1, C2
+    cover-same : (v : ℕ) → v < M .variables → tracks H (B .cover n) v ≡ true → valueOf (B .state n) v ≡ H .label (B .cover n) v
+    cover-same v h t = sym (cover-agrees v h t) ∙ sym (label-is M P B K value (B .cover n) v h t)
+
+    cover-adopted : (v : ℕ) → v < M .variables → tracks H (B .cover n) v ≡ true → (tracks H n v ≡ true) × (H .label n v ≡ H .label (B .cover n) v)
+    cover-adopted v h t =
+        let u : tracks H n v ≡ true = cover-tracked v h t in
+        (u, label-is M P B K value n v h u ∙ cover-same v h t)
+
+  pub c1 : (n : ℕ) → n < H .nodes → RightC1 M H n
+  c1 n l e = let k = number-covered (B .kind n) e in rw (cover-is M P B K value n l k) (cover-same n l k)
+
+  pub c2 : (n : ℕ) → n < H .nodes → RightC2 M H n
+  c2 n l e = let k = number-covered (B .kind n) e in rw (cover-is M P B K value n l k) (cover-adopted n l k)
+
   -- ---- the rules that read
   known-not-unknown : (b : Bool) → knownTruth b ≢ Unknown
   known-not-unknown b e = never-known b (sym e)
 
-  pub a2 : (n : ℕ) → n < G .nodes → RightA2 M G (byStates M G) n
+  pub a2 : (n : ℕ) → n < H .nodes → RightA2 M H (byStates M H) n
   a2 n l = record {
     guards = λ e c h u. known-not-unknown (enabled M (B .state n) c) (sym (guard-read n l (number-expanded (B .kind n) e) c h) ∙ u);
     no-target = λ e. target-read n l (number-expanded (B .kind n) e);
     target = λ e. reached-read n l (number-target (B .kind n) e);
   }
 
-  pub b1 : (n : ℕ) → n < G .nodes → RightB1 M G (byStates M G) n
+  pub b1 : (n : ℕ) → n < H .nodes → RightB1 M H (byStates M H) n
   b1 n l e =
       let k = number-expanded (B .kind n) e in
-      ap (λ (i : ℕ). tab i (G .command n)) (edges-are n l k)
+      ap (λ (i : ℕ). tab i (H .command n)) (edges-are M P B K value n l k)
       ∙ tab-own 0 (edgeCommands M (B .state n))
-      ∙ passing-same (M .commands) (enabled M (B .state n)) (enabledIn M G n) (λ c h. sym (ap isTrue (guard-read n l k c h) ∙ true-known (enabled M (B .state n) c)))
+      ∙ passing-same (M .commands) (enabled M (B .state n)) (enabledIn M H n) (λ c h. sym (ap isTrue (guard-read n l k c h) ∙ true-known (enabled M (B .state n) c)))
 
-  pub b2 : (n : ℕ) → n < G .nodes → RightB2 M G (byStates M G) n
+  pub b2 : (n : ℕ) → n < H .nodes → RightB2 M H (byStates M H) n
   b2 n l x e h b q =
       let k = number-expanded (B .kind n) x in
-      let a = edge-at n l k e h in
+      let a = edge-at M P B K value n l k e h in
       record {
-        concrete = λ v p. rw (state-is n l) (child-value n l k e h b q v p);
-        label = λ v p t. result-read n l k (G .command n e) (a .small) (a .passes) b q v p t ∙ ap Known (sym (label-is (G .successor n e b) v p t ∙ child-value n l k e h b q v p));
+        concrete = λ v p. rw (state-is M P B K value n l) (child-value M P B K value n l k e h b q v p);
+        label = λ v p t. result-read n l k (H .command n e) (a .small) (a .passes) b q v p t ∙ ap Known (sym (label-is M P B K value (H .successor n e b) v p t ∙ child-value M P B K value n l k e h b q v p));
       }
 
-  pub rules-right : ((n : ℕ) → n < G .nodes → RightValue M G value n) → RulesRight M G (byStates M G)
-  rules-right valued = record { a1 = λ n l. a1 n; a2 = a2; b1 = b1; b2 = b2; c3 = c3; c1 = c1; c2 = c2; values = valued }
+  pub rules-right : ((n : ℕ) → n < H .nodes → RightValue M H value n) → RulesRight M H (byStates M H)
+  rules-right valued = record { a1 = λ n l. a1 M P B K value n; a2 = a2; b1 = b1; b2 = b2; c3 = c3 M P B K value; c1 = c1; c2 = c2; values = valued }

@@ -28,9 +28,9 @@ ghost use Rattle.graph.specs.Walks.{NodeBodies, successorFits, EdgeAt, W
 // Certainty, in units.
 pub const UNITS: usize = 1000000000;
 
-const LEAST_BYTES: usize = 16;
+pub const LEAST_BYTES: usize = 16;
 
-const MOST_BYTES: usize = 1048576;
+pub const MOST_BYTES: usize = 1048576;
 
 pub const MOST_NODES: usize = 4096;
 // Slots of the index.

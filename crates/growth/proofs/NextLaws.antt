@@ -23,6 +23,7 @@ use Rattle.building.specs.Kept.{Kept, Mended}
 use Rattle.building.specs.Working.{ReadRight, ParentRight, Settled, HintRight, MarkRight, NextRight}
 use Rattle.building.proofs.FirstLaws.{nothing, orelse-some, given-some, first-none, first-some, onward-some}
 use Rattle.put.specs.Put.{Stays}
+use Rattle.put.proofs.PutLaws.{stays-both}
 use Rattle.held.specs.Held.{parentField, readField, hintField, heldIn}
 use Rattle.nodes.proofs.Expanded.{variables-some}
 use Rattle.wants.specs.Standing.{readIn, parentIn, hintIn, rowIn, Held, Standing, Reread, nodeOf}
@@ -115,9 +116,6 @@ next-right M B n e =
     record { is = λ i l x k. waits-so (B .kind i) i k (p .3 i (subst (λ (j : ℕ). i < j) (sym q) x)) }
 
 -- ---- what stands where the graph is the same
-pub stays-both : {a b : ℕ} {old mid new : List ℕ} → Stays a b old mid → Stays a b mid new → Stays a b old new
-stays-both s t = record { long = t .long ∙ s .long; below = λ j h. t .below j h ∙ s .below j h; past = λ j h. t .past j h ∙ s .past j h }
-
 module _ {m : List ℕ} {old new : List ℕ} where
   pub held-still : {nodes : ℕ} → heldIn m nodes new ≡ heldIn m nodes old → length new ≡ length old → Held m nodes old → Held m nodes new
   held-still e l H = record { model = H .model; kept = subst (λ (B : Building). Kept (modelOf m) mostNodes B) (sym e) (H .kept); long = omega (arith, H .long) }

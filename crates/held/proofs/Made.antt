@@ -20,7 +20,7 @@ use Rattle.building.specs.First.{put}
 use Rattle.building.specs.Building.{Building, startSet}
 use Rattle.building.specs.Moves.{apply, track, adopt, drop, coverBy, reach, tracking, becoming}
 use Rattle.building.proofs.FirstLaws.{put-at, put-other}
-use Rattle.held.specs.Held.{kindField, coverField, childField, parentField, readField, trackedField, stateField, fieldCount, nodeIn, stateIn, setIn, heldIn, putIn, Whole}
+use Rattle.held.specs.Held.{kindField, coverField, childField, parentField, readField, trackedField, stateField, fieldCount, nodeIn, stateIn, setIn, heldIn, putIn, becomeIn, Whole}
 use Rattle.held.proofs.FieldLaws.{whole-at, put-long, put-here, put-there, state-same}
 
 -- What stands of node i, if it is counted.
@@ -66,9 +66,6 @@ module _ (m nb : List ℕ) (nodes n f u : ℕ) (l : f < fieldCount (variableCoun
   rest-state i q = state-same m nb (putIn (variableCount m) nb n f u) i (λ v p. put-rest i (stateField + v) (omega arith) (q v p))
 
 -- Kind and cover of node n are written: the other fields stay.
-abbrev pub becomeIn : ℕ → List ℕ → ℕ → ℕ → ℕ → List ℕ
-becomeIn vars nb n k c = putIn vars (putIn vars nb n kindField k) n coverField c
-
 module _ (vars : ℕ) (nb : List ℕ) (n k c : ℕ) where
   pub become-other : (i f : ℕ) → f < fieldCount vars → (i ≡ n → f ≡ kindField → ⊥) → (i ≡ n → f ≡ coverField → ⊥)
       → field (nodeSize vars) (becomeIn vars nb n k c) i f ≡ field (nodeSize vars) nb i f

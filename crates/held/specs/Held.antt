@@ -81,6 +81,10 @@ heldIn m nodes nb = record {
 unfoldable pub putIn : ℕ → List ℕ → ℕ → ℕ → ℕ → List ℕ
 putIn vars nb n f u = put2 nb (nodeSize vars * n + 2 * f) u
 
+-- Node n becomes of kind k, by its number, with the cover c.
+abbrev pub becomeIn : ℕ → List ℕ → ℕ → ℕ → ℕ → List ℕ
+becomeIn vars nb n k c = putIn vars (putIn vars nb n kindField k) n coverField c
+
 -- The record of node n is there.
 abbrev pub Whole : ℕ → List ℕ → ℕ → Type 0
 Whole vars nb n = nodeSize vars * n + nodeSize vars ≤ length nb

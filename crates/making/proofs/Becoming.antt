@@ -25,16 +25,17 @@ use Rattle.building.proofs.FirstLaws.{put-at, put-other}
 use Rattle.building.proofs.Lengths.{length-becoming}
 use Rattle.building.proofs.Working.{read-becoming, settled-becoming, parent-becoming, hint-becoming, reach-becoming, next-becoming, mark-becoming, all-settled, hint-put}
 use Rattle.put.specs.Put.{Stays}
-use Rattle.held.specs.Held.{kindField, coverField, parentField, readField, hintField, fieldCount, nodeIn, heldIn, putIn, Whole}
+use Rattle.put.proofs.PutLaws.{stays-both}
+use Rattle.held.specs.Held.{kindField, coverField, parentField, readField, hintField, fieldCount, nodeIn, heldIn, putIn, becomeIn, Whole}
 use Rattle.held.proofs.FieldLaws.{put-here, put-there}
-use Rattle.held.proofs.Made.{becomeIn, become-other, become-long, drop-made, cover-made, reach-made, held-same}
+use Rattle.held.proofs.Made.{become-other, become-long, drop-made, cover-made, reach-made, held-same}
 use Rattle.nodes.proofs.Expanded.{variables-some}
 use Rattle.wants.specs.Standing.{readIn, parentIn, hintIn, rowIn}
-use Rattle.work.specs.Working.{limitOf, graphIn, Ready, Made, ToGrow}
+use Rattle.work.specs.Working.{limitOf, graphIn, Ready, Made, ToGrow, grownWork, droppedWork}
 use Rattle.work.specs.declared.Work.{Work}
 use Rattle.making.proofs.Marks.{none-set}
 use Rattle.making.proofs.Lowest.{lowest}
-use Rattle.making.proofs.Moving.{stays-both, put-stays, working, Knows, valid, keeps, told-of, in-field, in-marks, in-reaches, record-there, made}
+use Rattle.making.proofs.Moving.{put-stays, working, Knows, valid, keeps, told-of, in-field, in-marks, in-reaches, record-there, made}
 
 not-expanded : {κ k : Kind} → κ ≡ k → ifExpanded k 1 ≡ 0 → ifExpanded κ 1 ≡ 0
 not-expanded e h = ap (λ (κ : Kind). ifExpanded κ 1) e ∙ h
@@ -69,7 +70,7 @@ module _ (m nb : List ℕ) (n k c : ℕ) where
       stays-both (put-stays vars nb n kindField k (omega arith) nodes l) (put-stays vars (putIn vars nb n kindField k) n coverField c (omega arith) nodes l)
 
 -- ---- node n is not expanded, neither before nor after
-module _ {m masks : List ℕ} {longest : ℕ} {w : Work} {nb marks reaches : List ℕ} (mv : Move) (R : Ready m masks longest w nb marks reaches (some mv)) (n : ℕ) (κ : Kind) (c : ℕ)
+module _ {m : List ℕ} {longest : ℕ} {w : Work} {nb marks reaches : List ℕ} (mv : Move) (R : Ready m longest w nb marks reaches (some mv)) (n : ℕ) (κ : Kind) (c : ℕ)
     (same : becoming n κ c (graphIn m w nb) ≡ apply (modelOf m) mv (graphIn m w nb)) (was : ifExpanded (graphIn m w nb .kind n) 1 ≡ 0) (is : ifExpanded κ 1 ≡ 0) (new : List ℕ)
     (others : (i f : ℕ) → f < fieldCount (variableCount m) → (f ≡ kindField → ⊥) → (f ≡ coverField → ⊥) → (f ≡ hintField m → ⊥) → nodeIn m new i f ≡ nodeIn m nb i f) where
   abbrev M : Model
@@ -88,11 +89,11 @@ module _ {m masks : List ℕ} {longest : ℕ} {w : Work} {nb marks reaches : Lis
       → Settled M B fresh → HintRight M U (hintIn m new) fresh → ReachRight M U (rowIn reaches′) → MarkRight M U (rowIn marks′) low high → NextRight M U next
       → (low ≤ high) × (high ≤ w .nodes) × (next ≤ w .nodes) × (fresh ≤ mostNodes) → ((x : ℕ) → rowIn reaches′ x ≤ w .nodes) → length marks′ ≡ length marks → length reaches′ ≡ length reaches
       → Stays 0 (nodeSize (variableCount m) * w .nodes) nb new
-      → Made m masks longest w nb (some mv) (working (w .nodes) (w .len) fresh low high next) new marks′ reaches′
+      → Made m longest w nb (some mv) (working (w .nodes) (w .len) fresh low high next) new marks′ reaches′
   kind-changed fresh low high next {marks′} {reaches′} held s h r k x window bound long longer stays = made mv R held
       (subst (Knows m (working (w .nodes) (w .len) fresh low high next) new marks′ reaches′) same (record {
         counted = R .lent .counted ∙ sym (length-becoming M B n κ c was is);
-        read = rw (read-same m nb new others) (read-becoming M B n κ c later (R .standing .read));
+        read = rw (read-same m nb new others) (read-becoming M B n κ c later (R .read));
         parents = rw (parent-same m nb new others) (parent-becoming M B n κ c later (R .parents));
         settled = settled-becoming M B n κ c later s;
         hints = h;
@@ -110,19 +111,19 @@ module _ {m masks : List ℕ} {longest : ℕ} {w : Work} {nb marks reaches : Lis
       stays
 
 -- ---- n's cover is dropped
-module _ {m masks : List ℕ} {longest : ℕ} {w : Work} {nb marks reaches : List ℕ} {n : ℕ} (R : Ready m masks longest w nb marks reaches (some (drop n))) where
+module _ {m : List ℕ} {longest : ℕ} {w : Work} {nb marks reaches : List ℕ} {n : ℕ} (R : Ready m longest w nb marks reaches (some (drop n))) where
   drop-unmarked : (i : ℕ) → max (w .high) n ≤ i → Dec (i ≡ n) → rowIn (set marks n 0) i ≡ 0
   drop-unmarked i h (yes e) =
       ap (λ (j : ℕ). getD (set marks n 0) j 0) e ∙ getD-set-same marks n 0 0 (in-marks (drop n) R (told-of (drop n) R .0))
   drop-unmarked i h (no d) = getD-set-other marks n i 0 0 d ∙ R .to-make .marked .above i (omega arith)
 
-  pub dropped : Made m masks longest w nb (some (drop n)) (working (w .nodes) (w .len) (w .fresh) n (max (w .high) n) (min (w .next) n)) (becomeIn (variableCount m) nb n 0 0) (set marks n 0) reaches
+  pub dropped : Made m longest w nb (some (drop n)) (droppedWork w n) (becomeIn (variableCount m) nb n 0 0) (set marks n 0) reaches
   dropped =
       let g = told-of (drop n) R in
       let B : Building = graphIn m w nb in
       let later : Kind.waiting ≡ Kind.expanded → ⊥ = λ e. other-kind (λ z. omega arith) e in
       kind-changed (drop n) R n Kind.waiting 0 refl (not-expanded (g .1) refl) refl (becomeIn (variableCount m) nb n 0 0) (kind-others m nb n 0 0) (w .fresh) n (max (w .high) n) (min (w .next) n)
-      (drop-made m (w .nodes) nb (R .standing .held .long) n (g .0))
+      (drop-made m (w .nodes) nb (R .held .long) n (g .0))
       (R .settled)
       (rw (hint-same m nb n 0 0 (valid (drop n) R)) (hint-becoming (modelOf m) B n Kind.waiting 0 later (λ e. absurd (false≢true e)) (λ l. refl) (R .to-make .hints)))
       (reach-becoming (modelOf m) B n Kind.waiting 0 later (λ e. other-kind (λ z. omega arith) e) (λ x. omega arith) (R .covering))
@@ -150,7 +151,7 @@ module _ {m : List ℕ} {w : Work} {nb marks : List ℕ} {n : ℕ} (T : ToGrow m
   marked-alone i d = getD-set-other marks n i 1 0 d ∙ nothing-marked i
 
 -- Its kind, where it is not expanded.
-module _ {m masks : List ℕ} {longest : ℕ} {w : Work} {nb marks reaches : List ℕ} {n : ℕ} {mv : Move} (R : Ready m masks longest w nb marks reaches (some mv)) (T : ToGrow m w nb marks n)
+module _ {m : List ℕ} {longest : ℕ} {w : Work} {nb marks reaches : List ℕ} {n : ℕ} {mv : Move} (R : Ready m longest w nb marks reaches (some mv)) (T : ToGrow m w nb marks n)
     (l : n < w .nodes) (κ : Kind) (c : ℕ) (later : κ ≡ Kind.expanded → ⊥) (same : apply (modelOf m) mv (graphIn m w nb) ≡ becoming n κ c (graphIn m w nb))
     (near : (i : ℕ) → (i ≡ n → ⊥) → OutOfReach (modelOf m) (graphIn m w nb) i mv) where
   alone-marked : MarkRight (modelOf m) (becoming n κ c (graphIn m w nb)) (rowIn (set marks n 1)) n (n + 1)
@@ -160,14 +161,14 @@ module _ {m masks : List ℕ} {longest : ℕ} {w : Work} {nb marks reaches : Lis
       (λ i p. marked-alone T i (λ e. omega arith))
 
 -- ---- n becomes a target
-module _ {m masks : List ℕ} {longest : ℕ} {w : Work} {nb marks reaches : List ℕ} {n : ℕ} (R : Ready m masks longest w nb marks reaches (some (reach n))) where
-  pub targeted : Made m masks longest w nb (some (reach n)) (working (w .nodes) (w .len) n n (n + 1) n) (becomeIn (variableCount m) nb n 3 0) (set marks n 1) reaches
+module _ {m : List ℕ} {longest : ℕ} {w : Work} {nb marks reaches : List ℕ} {n : ℕ} (R : Ready m longest w nb marks reaches (some (reach n))) where
+  pub targeted : Made m longest w nb (some (reach n)) (grownWork (w .nodes) (w .len) n n) (becomeIn (variableCount m) nb n 3 0) (set marks n 1) reaches
   targeted =
       let g = told-of (reach n) R in
       let B : Building = graphIn m w nb in
       let later : Kind.target ≡ Kind.expanded → ⊥ = λ e. other-kind (λ z. omega arith) e in
       kind-changed (reach n) R n Kind.target 0 refl (not-expanded (g .1) refl) refl (becomeIn (variableCount m) nb n 3 0) (kind-others m nb n 3 0) n n (n + 1) n
-      (reach-made m (w .nodes) nb (R .standing .held .long) n (g .0))
+      (reach-made m (w .nodes) nb (R .held .long) n (g .0))
       (all-settled (modelOf m) B (R .to-make .mended) n)
       (rw (hint-same m nb n 3 0 (valid (reach n) R)) (hint-becoming (modelOf m) B n Kind.target 0 later (λ e. refl) (λ l. absurd (omega arith)) (R .to-make .hints)))
       (reach-becoming (modelOf m) B n Kind.target 0 later (λ e. other-kind (λ z. omega arith) e) (λ x. omega arith) (R .covering))
@@ -225,8 +226,8 @@ module _ (row : List ℕ) (c u : ℕ) (there : c < length row) where
       go (yes e) = subst Q (sym (ap (rowIn (set row c u)) e ∙ row-at)) (h e)
       go (no d) = subst Q (sym (getD-set-other row c x u 0 d)) g
 
-module _ {m masks : List ℕ} {longest : ℕ} {w : Work} {nb marks reaches : List ℕ} {n c : ℕ} (R : Ready m masks longest w nb marks reaches (some (coverBy n c))) where
-  covered : Made m masks longest w nb (some (coverBy n c)) (working (w .nodes) (w .len) mostNodes n (n + 1) n) (putIn (variableCount m) (becomeIn (variableCount m) nb n 2 c) n (hintField m) c) (set marks n 1) (set reaches c (max (rowIn reaches c) (n + 1)))
+module _ {m : List ℕ} {longest : ℕ} {w : Work} {nb marks reaches : List ℕ} {n c : ℕ} (R : Ready m longest w nb marks reaches (some (coverBy n c))) where
+  pub covered : Made m longest w nb (some (coverBy n c)) (grownWork (w .nodes) (w .len) mostNodes n) (putIn (variableCount m) (becomeIn (variableCount m) nb n 2 c) n (hintField m) c) (set marks n 1) (set reaches c (max (rowIn reaches c) (n + 1)))
   covered =
       let mv : Move = coverBy n c in
       let g = told-of mv R in
@@ -236,7 +237,7 @@ module _ {m masks : List ℕ} {longest : ℕ} {w : Work} {nb marks reaches : Lis
       let row : c < length reaches = in-reaches mv R (g .2) in
       let later : Kind.covered ≡ Kind.expanded → ⊥ = λ e. other-kind (λ z. omega arith) e in
       kind-changed mv R n Kind.covered c refl (not-expanded (g .1) refl) refl (last m nb n c v) (cover-others m nb n c v) mostNodes n (n + 1) n
-      (cover-held m nb n c v (w .nodes) (R .standing .held .long) (g .0) small)
+      (cover-held m nb n c v (w .nodes) (R .held .long) (g .0) small)
       (all-settled (modelOf m) B (R .to-make .mended) mostNodes)
       (rw (cover-hint m nb n c v (valid mv R) (record-there mv R (g .0) refl) small)
       (hint-becoming (modelOf m) B n Kind.covered c later (λ e. absurd (false≢true e)) (λ l. absurd (omega arith))
@@ -250,6 +251,3 @@ module _ {m masks : List ℕ} {longest : ℕ} {w : Work} {nb marks reaches : Lis
       (length-set marks n 1)
       (length-set reaches c (max (rowIn reaches c) (n + 1)))
       (cover-stays m nb n c v (w .nodes) (g .0))
-
-  pub covered-by : {u : ℕ} → u ≡ max (rowIn reaches c) (n + 1) → Made m masks longest w nb (some (coverBy n c)) (working (w .nodes) (w .len) mostNodes n (n + 1) n) (putIn (variableCount m) (becomeIn (variableCount m) nb n 2 c) n (hintField m) c) (set marks n 1) (set reaches c u)
-  covered-by e = rw e covered

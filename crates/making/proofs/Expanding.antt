@@ -24,15 +24,16 @@ use Rattle.building.specs.Moves.{Limit, expand}
 use Rattle.building.specs.Kept.{Kept}
 use Rattle.building.proofs.Lengths.{length-expanding}
 use Rattle.building.proofs.Working.{read-expanding, settled-expanding, parent-expanding, hint-expanding, reach-expanding, next-expanding, mark-expanding}
+use Rattle.put.proofs.PutLaws.{stays-both}
 use Rattle.held.specs.Held.{kindField, childField, parentField, readField, hintField, nodeIn, stateIn, setIn, putIn, NodeHere}
 use Rattle.held.proofs.Made.{counted-in}
 use Rattle.nodes.specs.Born.{recordsIn, childrenIn, edgesIn, Brood, BroodFits}
 use Rattle.nodes.proofs.Expanded.{records-few, children-is, edges-is, brood-fits, variables-some, expandedIn, expand-other, parent-is, read-none, hint-none, expand-made}
 use Rattle.wants.specs.Standing.{parentIn}
-use Rattle.work.specs.Working.{limitOf, graphIn, ToGrow, Ready, Made}
+use Rattle.work.specs.Working.{limitOf, graphIn, ToGrow, Ready, Made, grownWork}
 use Rattle.work.specs.declared.Work.{Work}
 use Rattle.making.proofs.Marks.{none-set}
-use Rattle.making.proofs.Moving.{stays-both, stays-wide, put-stays, Numbers, working, valid, keeps, told-of, in-field, in-marks, made, made-as}
+use Rattle.making.proofs.Moving.{stays-wide, put-stays, valid, keeps, told-of, in-field, in-marks, made, made-as}
 use Rattle.making.proofs.Becoming.{marked-alone}
 
 -- The length that a graph has with a node expanded is that of its parts.
@@ -44,7 +45,7 @@ nodes-part : (M : Model) (B : Building) → leastBytes + nodeSize (M .variables)
 unfolding graphLength
 nodes-part M B = omega arith
 
-module _ {m masks : List ℕ} {longest : ℕ} {w : Work} {nb marks reaches : List ℕ} {n : ℕ} (R : Ready m masks longest w nb marks reaches (some (expand n))) where
+module _ {m : List ℕ} {longest : ℕ} {w : Work} {nb marks reaches : List ℕ} {n : ℕ} (R : Ready m longest w nb marks reaches (some (expand n))) where
   abbrev M : Model
   M = modelOf m
 
@@ -165,15 +166,15 @@ module _ {m masks : List ℕ} {longest : ℕ} {w : Work} {nb marks reaches : Lis
               let h : parentIn m final i ≡ n = ap (parentIn m final) e ∙ parent-is (valid (expand n) R) there brood j (omega arith) in
               omega (arith, there)
 
-      pub expanded : Made m masks longest w nb (some (expand n)) (working (w .nodes + born) (w .len + (nodeSize (variableCount m) * born + bytes)) n n (n + 1) n) final (set marks n 1) reaches
+      pub expanded : Made m longest w nb (some (expand n)) (grownWork (w .nodes + born) (w .len + (nodeSize (variableCount m) * born + bytes)) n n) final (set marks n 1) reaches
       expanded =
           let v = valid (expand n) R in
           let waits = told-of (expand n) R .1 in
           let T : ToGrow m w nb marks n = R .to-make in
-          made (expand n) R (expand-made v there brood stated range (R .standing .held .long) (omega (arith, K .few)))
+          made (expand n) R (expand-made v there brood stated range (R .held .long) (omega (arith, K .few)))
           (record {
             counted = len-is ∙ sym (length-expanding M B n there waits);
-            read = read-expanding M P B K n there waits (old-field readField (omega arith) (λ e. omega arith) (λ e. omega arith)) (new-field readField 0 (read-none v there brood)) (R .standing .read);
+            read = read-expanding M P B K n there waits (old-field readField (omega arith) (λ e. omega arith) (λ e. omega arith)) (new-field readField 0 (read-none v there brood)) (R .read);
             parents = parent-expanding M P B K n there waits (old-field parentField (omega arith) (λ e. omega arith) (λ e. omega arith)) (new-field parentField n (parent-is v there brood)) (R .parents);
             settled = settled-expanding M P B K n there waits (T .mended);
             hints = hint-expanding M P B K n there waits (λ l. omega arith) (old-field (hintField m) (omega (arith, variables-some v)) (λ e. omega arith) (λ e. omega arith))
@@ -197,6 +198,6 @@ module _ {m masks : List ℕ} {longest : ℕ} {w : Work} {nb marks reaches : Lis
 
       -- With the numbers that the code has worked out.
       module _ {vars size b e : ℕ} (p : vars ≡ variableCount m) (s : size ≡ nodeSize vars) (x : b ≡ born) (y : e ≡ bytes) where
-        pub expanded-as : {w′ : Work} {last : List ℕ} → Numbers w′ (w .nodes + b) (w .len + (size * b + e)) n n (n + 1) n → last ≡ expandedIn vars new n (w .nodes)
-            → Made m masks longest w nb (some (expand n)) w′ last (set marks n 1) reaches
-        expanded-as N h = made-as (rw (s, p, x, y) at N) (h ∙ ap (λ (z : ℕ). expandedIn z new n (w .nodes)) p) expanded
+        pub expanded-as : {w′ : Work} {last : List ℕ} → w′ ≡ grownWork (w .nodes + b) (w .len + (size * b + e)) n n → last ≡ expandedIn vars new n (w .nodes)
+            → Made m longest w nb (some (expand n)) w′ last (set marks n 1) reaches
+        expanded-as N h = made-as (N ∙ rw (s, p, x, y) refl) (h ∙ ap (λ (z : ℕ). expandedIn z new n (w .nodes)) p) refl refl expanded

@@ -1,4 +1,4 @@
--- Marks set in a row: one by one as the code goes through the nodes, and at single places.
+-- Marks set in a row: those of the nodes that n covers, and at single places.
 -- Assumes nothing.
 use Prim.Native.Nat.{ℕ, _+_, _<_, _≤_, min}
 use mathlib.Core.Path.{_≡_, refl, sym, ap, _∙_}
@@ -14,32 +14,16 @@ use Rattle.folder.specs.Pick.{pick}
 use Rattle.folder.specs.Contents.{field}
 use Rattle.graph.specs.Simulation.{nodeSize}
 use Rattle.held.specs.Held.{kindField, coverField}
-use Rattle.making.specs.Marking.{isUnder, markIf, MarkedUnder, MarkedReach}
+use Rattle.put.specs.Put.{Changed}
+use Rattle.making.specs.Marking.{isUnder, markIf, markUnder, MarkedReach}
 
 -- ---- what the code reads of node i
 pub under-is : (vars : ℕ) (nb : List ℕ) (n i : ℕ) {size kind cover : ℕ} → size ≡ nodeSize vars → kind ≡ field size nb i kindField → cover ≡ field size nb i coverField
     → (eqb kind 2 && eqb cover n) ≡ isUnder vars nb n i
 under-is vars nb n i p a b = λ j. eqb ((a ∙ ap (λ (s : ℕ). field s nb i kindField) p) j) 2 && eqb ((b ∙ ap (λ (s : ℕ). field s nb i coverField) p) j) n
 
--- ---- the nodes that n covers, upward
-module _ (vars : ℕ) (nb : List ℕ) (n : ℕ) where
-  pub under-start : (old : List ℕ) → MarkedUnder vars nb n 0 old old
-  under-start old = record { long = refl; below = λ k l. absurd (omega arith); later = λ k l. refl }
-
-  pub under-next : {i : ℕ} {old new : List ℕ} {t : Bool} {x : ℕ} → MarkedUnder vars nb n i old new → i < length new → t ≡ isUnder vars nb n i → x ≡ markIf t (getD new i 0)
-      → MarkedUnder vars nb n (i + 1) old (set new i x)
-  under-next {i} {old} {new} {t} {x} u l e q = record {
-    long = length-set new i x ∙ u .long;
-    below = λ k h. go k h (ℕ-discrete k i);
-    later = λ k h. getD-set-other new i k x 0 (λ z. omega arith) ∙ u .later k (omega arith);
-  }
-    where
-      go : (k : ℕ) → k < i + 1 → Dec (k ≡ i) → getD (set new i x) k 0 ≡ markIf (isUnder vars nb n k) (getD old k 0)
-      go k h (yes z) = rw z (getD-set-same new i x 0 l ∙ q ∙ (λ j. markIf (e j) (u .later i (omega arith) j)))
-      go k h (no d) = getD-set-other new i k x 0 d ∙ u .below k (omega arith)
-
-  pub under-over : {i end : ℕ} {old new : List ℕ} → MarkedUnder vars nb n i old new → i ≤ end → end ≤ i → MarkedUnder vars nb n end old new
-  under-over {i} {end} u p q = let e : i ≡ end = omega arith in rw (← e) u
+pub mark-as : (vars : ℕ) (nb : List ℕ) (n i mark : ℕ) {t : Bool} {x : ℕ} → t ≡ isUnder vars nb n i → x ≡ markIf t mark → x ≡ markUnder vars nb n i mark
+mark-as vars nb n i mark e q = q ∙ ap (λ (hit : Bool). markIf hit mark) e
 
 -- ---- a mark that is set
 pub none-set : (row : List ℕ) (n k : ℕ) → n < length row → getD (set row n 1) k 0 ≡ 0 → (getD row k 0 ≡ 0) × (k ≡ n → ⊥)
@@ -54,11 +38,11 @@ unmarked-if true x e = absurd (omega arith)
 unmarked-if false x e = (refl, e)
 
 -- ---- the node, its parent, and what it covers
-pub reach-marked : (vars : ℕ) (nb : List ℕ) (n parent : ℕ) {end : ℕ} (old : List ℕ) {new : List ℕ} → n < length old → parent < length old → MarkedUnder vars nb n end (set (set old n 1) parent 1) new → MarkedReach vars nb n parent end old new
+pub reach-marked : (vars : ℕ) (nb : List ℕ) (n parent : ℕ) {end : ℕ} (old : List ℕ) {new : List ℕ} → n < length old → parent < length old → Changed 0 end (markUnder vars nb n) (set (set old n 1) parent 1) new → MarkedReach vars nb n parent end old new
 reach-marked vars nb n parent {end} old {new} p q u = record {
-  long = u .long ∙ length-set (set old n 1) parent 1 ∙ length-set old n 1;
+  long = u .stays .long ∙ length-set (set old n 1) parent 1 ∙ length-set old n 1;
   unmarked = λ k e. go k e (decLt k end);
-  same = λ k a b c. u .later k c ∙ getD-set-other (set old n 1) parent k 1 0 b ∙ getD-set-other old n k 1 0 a;
+  same = λ k a b c. u .stays .past k c ∙ getD-set-other (set old n 1) parent k 1 0 b ∙ getD-set-other old n k 1 0 a;
 }
   where
     two : (k : ℕ) → getD (set (set old n 1) parent 1) k 0 ≡ 0 → (getD old k 0 ≡ 0) × (k ≡ n → ⊥) × (k ≡ parent → ⊥)
@@ -69,11 +53,11 @@ reach-marked vars nb n parent {end} old {new} p q u = record {
 
     go : (k : ℕ) → getD new k 0 ≡ 0 → Dec (k < end) → (getD old k 0 ≡ 0) × (k ≡ n → ⊥) × (k ≡ parent → ⊥) × (k < end → isUnder vars nb n k ≡ false)
     go k e (yes l) =
-        let a = unmarked-if (isUnder vars nb n k) _ (sym (u .below k l) ∙ e) in
+        let a = unmarked-if (isUnder vars nb n k) _ (sym (u .is k (omega arith) l) ∙ e) in
         let b = two k (a .1) in
         (b .0, b .1, b .2, λ h. a .0)
     go k e (no d) =
-        let b = two k (sym (u .later k (omega arith)) ∙ e) in
+        let b = two k (sym (u .stays .past k (omega arith)) ∙ e) in
         (b .0, b .1, b .2, λ h. absurd (d h))
 
 pub reach-as : {vars vars′ n parent parent′ end end′ : ℕ} {nb old new : List ℕ} → vars ≡ vars′ → parent ≡ parent′ → end ≡ end′ → MarkedReach vars nb n parent end old new → MarkedReach vars′ nb n parent′ end′ old new

@@ -10,6 +10,7 @@ use lib.ListN.{length}
 use Rattle.mdp.specs.Kinds.{Kind}
 use Rattle.folder.specs.Fields.{fieldLimit}
 use Rattle.model.specs.Layout.{variableCount}
+use Rattle.model.specs.Limits.{mostVariables}
 use Rattle.model.specs.Model.{Model, modelOf}
 use Rattle.model.specs.Valid.{Valid}
 use Rattle.graph.specs.Limits.{leastBytes, mostNodes}
@@ -34,11 +35,9 @@ use Rattle.nodes.specs.declared.Move.the-variants.{Nothing}
 use Rattle.wants.specs.Standing.{readIn, parentIn, hintIn, rowIn}
 use Rattle.work.specs.Working.{limitOf, graphIn, Ready, Made}
 use Rattle.work.specs.declared.Work.{Work}
+use Rattle.making.specs.Marking.{Counted}
 
 -- ---- bytes that stay
-pub stays-both : {a b : ℕ} {old mid new : List ℕ} → Stays a b old mid → Stays a b mid new → Stays a b old new
-stays-both s t = record { long = t .long ∙ s .long; below = λ j h. t .below j h ∙ s .below j h; past = λ j h. t .past j h ∙ s .past j h }
-
 pub stays-wide : {a b c : ℕ} {old new : List ℕ} → b ≤ c → Stays a b old new → Stays 0 c old new
 stays-wide h s = record { long = s .long; below = λ j l. absurd (omega arith); past = λ j l. s .past j (omega arith) }
 
@@ -46,29 +45,17 @@ stays-wide h s = record { long = s .long; below = λ j l. absurd (omega arith); 
 pub put-stays : (vars : ℕ) (nb : List ℕ) (n f u : ℕ) → f < fieldCount vars → (nodes : ℕ) → n < nodes → Stays 0 (nodeSize vars * nodes) nb (putIn vars nb n f u)
 put-stays vars nb n f u l nodes h = stays-wide (record-at (nodeSize vars) n nodes h) (put-within vars nb n f u l)
 
--- ---- the numbers after a move
-pub record Numbers (w : Work) (nodes len fresh low high next : ℕ) : Type 0 where
-  pub nodes-are : w .nodes ≡ nodes
-  pub len-is : w .len ≡ len
-  pub fresh-is : w .fresh ≡ fresh
-  pub low-is : w .low ≡ low
-  pub high-is : w .high ≡ high
-  pub next-is : w .next ≡ next
-
-pub numbers : {w : Work} {nodes len fresh low high next : ℕ} → (w .nodes ≡ nodes) × (w .len ≡ len) × (w .fresh ≡ fresh) × (w .low ≡ low) × (w .high ≡ high) × (w .next ≡ next)
-    → Numbers w nodes len fresh low high next
-numbers p = record { nodes-are = p .0; len-is = p .1; fresh-is = p .2; low-is = p .3; high-is = p .4; next-is = p .5 }
-
+-- ---- what a move leaves, by other names
 abbrev pub working : (nodes len fresh low high next : ℕ) → Work
 working nodes len fresh low high next = record { nodes = nodes; len = len; fresh = fresh; low = low; high = high; next = next }
 
-pub numbers-are : {w : Work} {nodes len fresh low high next : ℕ} → Numbers w nodes len fresh low high next → working nodes len fresh low high next ≡ w
-numbers-are N = λ i. record { nodes = sym (N .nodes-are) i; len = sym (N .len-is) i; fresh = sym (N .fresh-is) i; low = sym (N .low-is) i; high = sym (N .high-is) i; next = sym (N .next-is) i }
+pub window-is : {nodes len fresh low low′ high high′ next next′ : ℕ} → low ≡ low′ → high ≡ high′ → next ≡ next′ → working nodes len fresh low high next ≡ working nodes len fresh low′ high′ next′
+window-is {nodes} {len} {fresh} p q r = λ i. working nodes len fresh (p i) (q i) (r i)
 
--- The records and the numbers, by other names.
-pub made-as : {m masks nb nb′ nb″ marks′ reaches′ : List ℕ} {longest : ℕ} {w w′ : Work} {o : Option Move} {nodes len fresh low high next : ℕ} → Numbers w′ nodes len fresh low high next → nb″ ≡ nb′
-    → Made m masks longest w nb o (working nodes len fresh low high next) nb′ marks′ reaches′ → Made m masks longest w nb o w′ nb″ marks′ reaches′
-made-as {m} {masks} {nb} {marks′ = marks′} {reaches′ = reaches′} {longest = longest} {w = w} {o = o} N e h = transport (λ i. Made m masks longest w nb o (numbers-are N i) (sym e i) marks′ reaches′) h
+module _ {m nb : List ℕ} {longest : ℕ} {w : Work} {o : Option Move} where
+  pub made-as : {w′ w″ : Work} {nb′ nb″ marks′ marks″ reaches′ reaches″ : List ℕ} → w″ ≡ w′ → nb″ ≡ nb′ → marks″ ≡ marks′ → reaches″ ≡ reaches′
+      → Made m longest w nb o w′ nb′ marks′ reaches′ → Made m longest w nb o w″ nb″ marks″ reaches″
+  made-as p q r s h = transport (λ i. Made m longest w nb o (sym p i) (sym q i) (sym r i) (sym s i)) h
 
 -- ---- what a move that may be made tells of its node
 abbrev pub Given : Model → Limit → Building → Move → Type 0
@@ -110,7 +97,7 @@ nodes-within : (M : Model) (C : Building) (nodes : ℕ) → C .nodes ≡ nodes �
 unfolding graphLength
 nodes-within M C nodes e h = rw (← e) (omega arith)
 
-module _ {m masks : List ℕ} {longest : ℕ} {w : Work} {nb marks reaches : List ℕ} (mv : Move) (R : Ready m masks longest w nb marks reaches (some mv)) where
+module _ {m : List ℕ} {longest : ℕ} {w : Work} {nb marks reaches : List ℕ} (mv : Move) (R : Ready m longest w nb marks reaches (some mv)) where
   abbrev M : Model
   M = modelOf m
 
@@ -121,10 +108,10 @@ module _ {m masks : List ℕ} {longest : ℕ} {w : Work} {nb marks reaches : Lis
   B = graphIn m w nb
 
   pub valid : Valid m
-  valid = R .standing .held .model
+  valid = R .held .model
 
   pub keeps : Kept M mostNodes B
-  keeps = R .standing .held .kept
+  keeps = R .held .kept
 
   next-move : nextMove M P B ≡ some mv
   next-move = sym (R .next)
@@ -150,7 +137,10 @@ module _ {m masks : List ℕ} {longest : ℕ} {w : Work} {nb marks reaches : Lis
     reach-fits c e q = omega (arith, l, keeps .few, R .bounds .1 c)
 
     pub record-there : {vars : ℕ} → vars ≡ variableCount m → Whole vars nb n
-    record-there e = subst (λ (v : ℕ). Whole v nb n) (sym e) (whole-at (variableCount m) nb n (w .nodes) l (R .standing .held .long))
+    record-there e = subst (λ (v : ℕ). Whole v nb n) (sym e) (whole-at (variableCount m) nb n (w .nodes) l (R .held .long))
+
+    pub counted : {vars : ℕ} → vars ≡ variableCount m → vars ≤ mostVariables → Counted vars w nb marks n
+    counted e v = record { variables = v; within = l; few = keeps .few; whole = record-there e; marks-long = R .rows .0 }
 
   after-kept : Kept M mostNodes (apply M mv B)
   after-kept = kept M P (valid .model) B keeps mv apt
@@ -159,20 +149,16 @@ module _ {m masks : List ℕ} {longest : ℕ} {w : Work} {nb marks reaches : Lis
   after-short = short-kept M P B mv apt (rw (← R .lent .counted) (R .lent .short))
 
   pub made : {w′ : Work} {nb′ marks′ reaches′ : List ℕ} → graphIn m w′ nb′ ≡ apply M mv B → Knows m w′ nb′ marks′ reaches′ (apply M mv B) → Within m (w .nodes) w′ nb′ marks′ reaches′
-      → Stays 0 (nodeSize (variableCount m) * w′ .nodes) nb nb′ → Made m masks longest w nb (some mv) w′ nb′ marks′ reaches′
+      → Stays 0 (nodeSize (variableCount m) * w′ .nodes) nb nb′ → Made m longest w nb (some mv) w′ nb′ marks′ reaches′
   made {w′} {nb′} {marks′} {reaches′} e f h s =
       let k : Knows m w′ nb′ marks′ reaches′ (graphIn m w′ nb′) = subst (Knows m w′ nb′ marks′ reaches′) (sym e) f in
       record {
         is = e;
         working = record {
-          standing = record {
-            held = record {
-              model = valid;
-              kept = subst (Kept M mostNodes) (sym e) after-kept;
-              long = nodes-within M (apply M mv B) (w′ .nodes) (ap (λ (C : Building). C .nodes) (sym e)) (omega (arith, after-short, R .lent .lent, s .long));
-            };
-            masked = R .standing .masked;
-            read = k .read;
+          held = record {
+            model = valid;
+            kept = subst (Kept M mostNodes) (sym e) after-kept;
+            long = nodes-within M (apply M mv B) (w′ .nodes) (ap (λ (C : Building). C .nodes) (sym e)) (omega (arith, after-short, R .lent .lent, s .long));
           };
           reached = subst (Reached M P) (sym e) (reached-by M P mv (R .reached) next-move);
           lent = record {
@@ -182,6 +168,7 @@ module _ {m masks : List ℕ} {longest : ℕ} {w : Work} {nb marks reaches : Lis
             limit = R .lent .limit;
           };
           known = record {
+            read = k .read;
             parents = k .parents;
             settled = k .settled;
             hints = k .hints;
@@ -199,11 +186,11 @@ module _ {m masks : List ℕ} {longest : ℕ} {w : Work} {nb marks reaches : Lis
       }
 
 -- ---- the move that the code was told
-pub ready-by : {m masks : List ℕ} {longest : ℕ} {w : Work} {nb marks reaches : List ℕ} {found is : Found} → found ≡ is → Ready m masks longest w nb marks reaches (told found) → Ready m masks longest w nb marks reaches (told is)
-ready-by {m} {masks} {longest} {w} {nb} {marks} {reaches} e h = subst (λ (f : Found). Ready m masks longest w nb marks reaches (told f)) e h
+pub ready-by : {m : List ℕ} {longest : ℕ} {w : Work} {nb marks reaches : List ℕ} {found is : Found} → found ≡ is → Ready m longest w nb marks reaches (told found) → Ready m longest w nb marks reaches (told is)
+ready-by {m} {longest} {w} {nb} {marks} {reaches} e h = subst (λ (f : Found). Ready m longest w nb marks reaches (told f)) e h
 
-pub made-by : {m masks : List ℕ} {longest : ℕ} {w w′ : Work} {nb nb′ marks′ reaches′ : List ℕ} {found is : Found} → found ≡ is → Made m masks longest w nb (told is) w′ nb′ marks′ reaches′ → Made m masks longest w nb (told found) w′ nb′ marks′ reaches′
-made-by {m} {masks} {longest} {w} {w′} {nb} {nb′} {marks′} {reaches′} e h = subst (λ (f : Found). Made m masks longest w nb (told f) w′ nb′ marks′ reaches′) (sym e) h
+pub made-by : {m : List ℕ} {longest : ℕ} {w w′ : Work} {nb nb′ marks′ reaches′ : List ℕ} {found is : Found} → found ≡ is → Made m longest w nb (told is) w′ nb′ marks′ reaches′ → Made m longest w nb (told found) w′ nb′ marks′ reaches′
+made-by {m} {longest} {w} {w′} {nb} {nb′} {marks′} {reaches′} e h = subst (λ (f : Found). Made m longest w nb (told f) w′ nb′ marks′ reaches′) (sym e) h
 
 pub nothing-told : {found : Found} {A : Type 0} → found ≡ Nothing → there (told found) ≡ true → A
 nothing-told e h = absurd (false≢true (ap (λ (f : Found). there (told f)) (sym e) ∙ h))

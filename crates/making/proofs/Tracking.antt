@@ -37,10 +37,10 @@ use Rattle.held.proofs.FieldLaws.{put-there, union-field, bit-field, set-field}
 use Rattle.held.proofs.Made.{counted-in, track-made, adopt-made}
 use Rattle.nodes.proofs.Expanded.{variables-some}
 use Rattle.wants.specs.Standing.{readIn, parentIn, hintIn, rowIn}
-use Rattle.work.specs.Working.{limitOf, graphIn, ToRepair, Ready, Made, GrownWork}
+use Rattle.work.specs.Working.{limitOf, graphIn, ToRepair, Ready, Made, labelledWork}
 use Rattle.work.specs.declared.Work.{Work}
 use Rattle.making.specs.Marking.{isUnder, MarkedReach}
-use Rattle.making.proofs.Moving.{put-stays, working, Knows, valid, keeps, told-of, made, made-as}
+use Rattle.making.proofs.Moving.{put-stays, working, Knows, valid, keeps, told-of, made}
 
 -- ---- which field a covered node has
 covered-by : (a b d : Bool) → pick a Kind.expanded (pick b Kind.covered (pick d Kind.target Kind.waiting)) ≡ Kind.covered → b ≡ true
@@ -71,7 +71,7 @@ low-within n parent end = go (ℕ-discrete end 0)
     go (yes e) = rw (eq-eqb end 0 e) (omega arith)
     go (no d) = rw (ne-eqb end 0 d) (omega arith)
 
-module _ {m masks : List ℕ} {longest : ℕ} {w : Work} {nb marks reaches : List ℕ} (mv : Move) (R : Ready m masks longest w nb marks reaches (some mv)) (n : ℕ) (there : n < w .nodes) (u : ℕ) (new : List ℕ)
+module _ {m : List ℕ} {longest : ℕ} {w : Work} {nb marks reaches : List ℕ} (mv : Move) (R : Ready m longest w nb marks reaches (some mv)) (n : ℕ) (there : n < w .nodes) (u : ℕ) (new : List ℕ)
     (put : new ≡ putIn (variableCount m) nb n trackedField u) where
   abbrev M : Model
   M = modelOf m
@@ -124,16 +124,15 @@ module _ {m masks : List ℕ} {longest : ℕ} {w : Work} {nb marks reaches : Lis
         (λ i h. G .same i (λ q. omega arith) (λ q. omega arith) (omega arith) ∙ T .marked .above i (omega arith))
 
     pub label-grown : (t : ℕ) → tracking n t B ≡ apply M mv B → ((v : ℕ) → hasBit (B .tracked n) v ≡ true → hasBit t v ≡ true) → t < 2 ^ M .variables → heldIn m (w .nodes) new ≡ apply M mv B
-        → {w′ : Work} → GrownWork w n (parentIn m new n) (rowIn reaches n) w′ → Made m masks longest w nb (some mv) w′ new marks′ reaches
-    label-grown t same more small held {w′} D =
+        → Made m longest w nb (some mv) (labelledWork w n (parentIn m new n) (rowIn reaches n)) new marks′ reaches
+    label-grown t same more small held =
         let low : ℕ = pick (eqb (rowIn reaches n) 0) (min n (parentIn m new n)) 0 in
         let high : ℕ = max (w .high) (max (max n (parentIn m new n) + 1) (rowIn reaches n)) in
         let K = keeps mv R in
-        made-as (record { nodes-are = D .nodes; len-is = D .len; fresh-is = D .fresh; low-is = D .low; high-is = D .high; next-is = D .next }) refl
-        (made mv R held
+        made mv R held
         (subst (Knows m (working (w .nodes) (w .len) (w .fresh) low high (w .next)) new marks′ reaches) same (record {
           counted = R .lent .counted ∙ sym (length-tracking M B n t);
-          read = rw read-same (read-tracking M P B K n t more small (R .standing .read));
+          read = rw read-same (read-tracking M P B K n t more small (R .read));
           parents = rw parent-same (parent-tracking M P B K n t more small (R .parents));
           settled = settled-tracking M P B K n t more small (R .settled);
           hints = rw hint-same (hint-tracking M P B K n t more small (T .hints));
@@ -148,19 +147,19 @@ module _ {m masks : List ℕ} {longest : ℕ} {w : Work} {nb marks reaches : Lis
           bounds = (parent-low, R .bounds .1);
           rows = (omega (arith, R .rows .0, G .long), R .rows .1);
         })
-        (subst (λ (bytes : List ℕ). Stays 0 (nodeSize (variableCount m) * w .nodes) nb bytes) (sym put) (put-stays (variableCount m) nb n trackedField u (omega arith) (w .nodes) there)))
+        (subst (λ (bytes : List ℕ). Stays 0 (nodeSize (variableCount m) * w .nodes) nb bytes) (sym put) (put-stays (variableCount m) nb n trackedField u (omega arith) (w .nodes) there))
 
 -- ---- n tracks variable v
-module _ {m masks : List ℕ} {longest : ℕ} {w : Work} {nb marks reaches : List ℕ} {n v : ℕ} (R : Ready m masks longest w nb marks reaches (some (track n v))) where
+module _ {m : List ℕ} {longest : ℕ} {w : Work} {nb marks reaches : List ℕ} {n v : ℕ} (R : Ready m longest w nb marks reaches (some (track n v))) where
   abbrev trackedIn : List ℕ
   trackedIn = putIn (variableCount m) nb n trackedField (union (setIn m nb n) (2 ^ v))
 
   pub tracked-is : {vars : ℕ} {new : List ℕ} → vars ≡ variableCount m → new ≡ putIn vars nb n trackedField (union (field (nodeSize vars) nb n trackedField) (2 ^ v)) → new ≡ trackedIn
   tracked-is e h = h ∙ ap (λ (x : ℕ). putIn x nb n trackedField (union (field (nodeSize x) nb n trackedField) (2 ^ v))) e
 
-  pub track-grown : {new marks′ : List ℕ} {w′ : Work} → new ≡ trackedIn → MarkedReach (variableCount m) new n (parentIn m new n) (rowIn reaches n) marks marks′ → GrownWork w n (parentIn m new n) (rowIn reaches n) w′
-      → Made m masks longest w nb (some (track n v)) w′ new marks′ reaches
-  track-grown {new} e G D =
+  pub track-grown : {new marks′ : List ℕ} → new ≡ trackedIn → MarkedReach (variableCount m) new n (parentIn m new n) (rowIn reaches n) marks marks′
+      → Made m longest w nb (some (track n v)) (labelledWork w n (parentIn m new n) (rowIn reaches n)) new marks′ reaches
+  track-grown {new} e G =
       let mv : Move = track n v in
       let g = told-of mv R in
       let K = keeps mv R in
@@ -170,10 +169,10 @@ module _ {m masks : List ℕ} {longest : ℕ} {w : Work} {nb marks reaches : Lis
       let fits : union (setIn m nb n) (2 ^ v) < fieldLimit = union-field (setIn m nb n) (2 ^ v) (set-field (variableCount m) (setIn m nb n) few set) (bit-field v (omega (arith, g .1, few))) in
       label-grown mv R n (g .0) (union (setIn m nb n) (2 ^ v)) new e (R .to-make) (λ i c. c) G (union (B .tracked n) (2 ^ v)) refl (λ x h. in-left (B .tracked n) (2 ^ v) x h)
       (union-small (variableCount m) (B .tracked n) (2 ^ v) (K .small n (g .0)) (pow-lt (g .1)))
-      (ap (heldIn m (w .nodes)) e ∙ track-made m (w .nodes) nb (R .standing .held .long) n (g .0) v fits) D
+      (ap (heldIn m (w .nodes)) e ∙ track-made m (w .nodes) nb (R .held .long) n (g .0) v fits)
 
 -- ---- n tracks what its cover tracks
-module _ {m masks : List ℕ} {longest : ℕ} {w : Work} {nb marks reaches : List ℕ} {n : ℕ} (R : Ready m masks longest w nb marks reaches (some (adopt n))) where
+module _ {m : List ℕ} {longest : ℕ} {w : Work} {nb marks reaches : List ℕ} {n : ℕ} (R : Ready m longest w nb marks reaches (some (adopt n))) where
   abbrev cover : ℕ
   cover = nodeIn m nb n coverField
 
@@ -185,9 +184,9 @@ module _ {m masks : List ℕ} {longest : ℕ} {w : Work} {nb marks reaches : Lis
   adopted-is e h =
       h ∙ ap (λ (x : ℕ). putIn x nb n trackedField (union (field (nodeSize x) nb n trackedField) (field (nodeSize x) nb (field (nodeSize x) nb n coverField) trackedField))) e
 
-  pub adopt-grown : {new marks′ : List ℕ} {w′ : Work} → new ≡ adoptedIn → MarkedReach (variableCount m) new n (parentIn m new n) (rowIn reaches n) marks marks′ → GrownWork w n (parentIn m new n) (rowIn reaches n) w′
-      → Made m masks longest w nb (some (adopt n)) w′ new marks′ reaches
-  adopt-grown {new} e G D =
+  pub adopt-grown : {new marks′ : List ℕ} → new ≡ adoptedIn → MarkedReach (variableCount m) new n (parentIn m new n) (rowIn reaches n) marks marks′
+      → Made m longest w nb (some (adopt n)) (labelledWork w n (parentIn m new n) (rowIn reaches n)) new marks′ reaches
+  adopt-grown {new} e G =
       let mv : Move = adopt n in
       let g = told-of mv R in
       let K = keeps mv R in
@@ -200,4 +199,4 @@ module _ {m masks : List ℕ} {longest : ℕ} {w : Work} {nb marks reaches : Lis
       label-grown mv R n (g .0) (union (setIn m nb n) (setIn m nb cover)) new e (R .to-make) (λ i c. c) G (union (B .tracked n) (B .tracked (B .cover n))) refl
       (λ x h. in-left (B .tracked n) (B .tracked (B .cover n)) x h)
       (union-small (variableCount m) (B .tracked n) (B .tracked (B .cover n)) (K .small n (g .0)) (K .small (B .cover n) over))
-      (ap (heldIn m (w .nodes)) e ∙ adopt-made m (w .nodes) nb (R .standing .held .long) n (g .0) held (union-field (setIn m nb n) (setIn m nb cover) (small n (g .0)) (small cover held))) D
+      (ap (heldIn m (w .nodes)) e ∙ adopt-made m (w .nodes) nb (R .held .long) n (g .0) held (union-field (setIn m nb n) (setIn m nb cover) (small n (g .0)) (small cover held)))

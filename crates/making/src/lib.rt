@@ -7,24 +7,25 @@ use graph::WAITING;
 use nodes::Move;
 use nodes::PARENT;
 use nodes::STATE;
-use work::Pair;
 use work::Work;
 ghost use mathlib.Core.Path.{_≡_};
 ghost use mathlib.Core.Bool.{true};
 ghost use mathlib.Core.Option.{some};
-ghost use Prim.Native.Nat.{_<_, _≤_};
-ghost use lib.ListN.{length};
+ghost use Prim.Native.Nat.{_+_, _<_, _≤_, max};
+ghost use lib.ListN.{length, set};
 ghost use Rattle.folder.specs.Fields.{fieldLimit};
 ghost use Rattle.model.specs.Limits.{mostVariables};
 ghost use Rattle.model.specs.Layout.{variableCount};
 ghost use Rattle.model.specs.Valid.{Valid};
 ghost use Rattle.graph.specs.Limits.{mostNodes};
 ghost use Rattle.building.specs.First.{there};
-ghost use Rattle.building.specs.Moves.{track, adopt, drop, coverBy, reach, expand};
+ghost use Rattle.building.specs.Moves.{expand};
+ghost use Rattle.put.specs.Put.{Changed};
+ghost use Rattle.held.specs.Held.{stateField, putIn, becomeIn};
 ghost use Rattle.nodes.specs.Told.{told};
 ghost use Rattle.wants.specs.Standing.{parentIn, rowIn};
-ghost use Rattle.work.specs.Working.{Ready, Made, GrownWork};
-ghost use Rattle.making.specs.Marking.{isUnder, markIf, MarkedUnder, MarkedReach};
+ghost use Rattle.work.specs.Working.{Ready, Made, grownWork, droppedWork, labelledWork};
+ghost use Rattle.making.specs.Marking.{isUnder, markIf, markUnder, MarkedReach, Counted};
 
 // Node i is covered by node n.
 fn is_under(vars: usize, nb: &[u8], n: usize, i: usize) -> bool
@@ -46,7 +47,7 @@ fn mark_if(hit: bool, mark: u8) -> u8
 // Marks the nodes below `end` that node n covers.
 fn mark_under(vars: usize, nb: &[u8], n: usize, end: usize, marks: &mut [u8])
     requires { ⌜ (vars ≤ mostVariables) × (end ≤ fieldLimit) × (end ≤ length (now marks)) ⌝ }
-    ensures { λ _. ⌜ MarkedUnder vars (now (nb .entry)) n end (now (marks .entry)) (now (marks .exit)) ⌝ }
+    ensures { λ _. ⌜ Changed 0 end (markUnder vars (now (nb .entry)) n) (now (marks .entry)) (now (marks .exit)) ⌝ }
 {
     let mut i = 0;
     while i < end {
@@ -66,18 +67,18 @@ fn mark_reach(vars: usize, nb: &[u8], n: usize, parent: usize, end: usize, marks
 }
 
 fn wide(x: u16) -> usize
-    ensures { λ r. ⌜ r ≡ x ⌝ }
+    ensures { λ r. ⌜ (r ≡ x) × (r < fieldLimit) ⌝ }
 {
     x as usize
 }
 
-// The label of node n is to grow by the move `mv`, which is made by then: what it may break is marked.
+// The label of node n has grown: what that may break is marked.
 fn grow_label(m: &[u8], nb: &[u8], marks: &mut [u8], reaches: &[u16], w: Work, n: usize) -> Work
     requires { ⌜ Valid (now m) ⌝ }
     requires { ⌜ (n < w .nodes) × (w .nodes ≤ mostNodes) × (w .high ≤ w .nodes) × (parentIn (now m) (now nb) n < w .nodes) × (rowIn (now reaches) n ≤ w .nodes) ⌝ }
     requires { ⌜ (mostNodes ≤ length (now marks)) × (mostNodes ≤ length (now reaches)) ⌝ }
     ensures { λ _. ⌜ MarkedReach (variableCount (now (m .entry))) (now (nb .entry)) n (parentIn (now (m .entry)) (now (nb .entry)) n) (rowIn (now (reaches .entry)) n) (now (marks .entry)) (now (marks .exit)) ⌝ }
-    ensures { λ r. ⌜ GrownWork w n (parentIn (now (m .entry)) (now (nb .entry)) n) (rowIn (now (reaches .entry)) n) r ⌝ }
+    ensures { λ r. ⌜ r ≡ labelledWork w n (parentIn (now (m .entry)) (now (nb .entry)) n) (rowIn (now (reaches .entry)) n) ⌝ }
 {
     let vars = graph::variable_count(m);
     let parent = folder::field(graph::node_size(vars), nb, n, PARENT);
@@ -99,57 +100,14 @@ fn grow_label(m: &[u8], nb: &[u8], marks: &mut [u8], reaches: &[u16], w: Work, n
     }
 }
 
-// Node n tracks variable v.
-fn make_track(
-    m: &[u8],
-    nb: &mut [u8],
-    masks: &[u16],
-    marks: &mut [u8],
-    reaches: &[u16],
-    longest: usize,
-    w: Work,
-    at: Pair,
-) -> Work
-    requires { ⌜ Ready (now m) (now masks) longest w (now nb) (now marks) (now reaches) (some (track (at .node) (at .other))) ⌝ }
-    ensures { λ r. ⌜ Made (now (m .entry)) (now (masks .entry)) longest w (now (nb .entry)) (some (track (at .node) (at .other))) r (now (nb .exit)) (now (marks .exit)) (now (reaches .entry)) ⌝ }
-{
-    nodes::track(graph::variable_count(m), nb, at.node, at.other);
-    grow_label(m, nb, marks, reaches, w, at.node)
-}
-
-// Node n tracks what its cover tracks.
-fn make_adopt(
-    m: &[u8],
-    nb: &mut [u8],
-    masks: &[u16],
-    marks: &mut [u8],
-    reaches: &[u16],
-    longest: usize,
-    w: Work,
-    n: usize,
-) -> Work
-    requires { ⌜ Ready (now m) (now masks) longest w (now nb) (now marks) (now reaches) (some (adopt n)) ⌝ }
-    ensures { λ r. ⌜ Made (now (m .entry)) (now (masks .entry)) longest w (now (nb .entry)) (some (adopt n)) r (now (nb .exit)) (now (marks .exit)) (now (reaches .entry)) ⌝ }
-{
-    nodes::adopt(graph::variable_count(m), nb, n);
-    grow_label(m, nb, marks, reaches, w, n)
-}
-
 // Node n's cover is dropped, and it waits again.
-fn make_drop(
-    m: &[u8],
-    nb: &mut [u8],
-    masks: &[u16],
-    marks: &mut [u8],
-    reaches: &[u16],
-    longest: usize,
-    w: Work,
-    n: usize,
-) -> Work
-    requires { ⌜ Ready (now m) (now masks) longest w (now nb) (now marks) (now reaches) (some (drop n)) ⌝ }
-    ensures { λ r. ⌜ Made (now (m .entry)) (now (masks .entry)) longest w (now (nb .entry)) (some (drop n)) r (now (nb .exit)) (now (marks .exit)) (now (reaches .entry)) ⌝ }
+fn make_drop(vars: usize, nb: &mut [u8], marks: &mut [u8], w: Work, n: usize) -> Work
+    requires { ⌜ Counted vars w (now nb) (now marks) n ⌝ }
+    ensures { λ r. ⌜ r ≡ droppedWork w n ⌝ }
+    ensures { λ _. ⌜ now (nb .exit) ≡ becomeIn vars (now (nb .entry)) n 0 0 ⌝ }
+    ensures { λ _. ⌜ now (marks .exit) ≡ set (now (marks .entry)) n 0 ⌝ }
 {
-    nodes::become_kind(graph::variable_count(m), nb, n, WAITING, 0);
+    nodes::become_kind(vars, nb, n, WAITING, 0);
     marks[n] = 0;
     Work {
         nodes: w.nodes,
@@ -163,21 +121,21 @@ fn make_drop(
 
 // Node n is covered by the node c.
 fn make_cover(
-    m: &[u8],
+    vars: usize,
     nb: &mut [u8],
-    masks: &[u16],
     marks: &mut [u8],
     reaches: &mut [u16],
-    longest: usize,
     w: Work,
-    at: Pair,
+    n: usize,
+    c: usize,
 ) -> Work
-    requires { ⌜ Ready (now m) (now masks) longest w (now nb) (now marks) (now reaches) (some (coverBy (at .node) (at .other))) ⌝ }
-    ensures { λ r. ⌜ Made (now (m .entry)) (now (masks .entry)) longest w (now (nb .entry)) (some (coverBy (at .node) (at .other))) r (now (nb .exit)) (now (marks .exit)) (now (reaches .exit)) ⌝ }
+    requires { ⌜ Counted vars w (now nb) (now marks) n ⌝ }
+    requires { ⌜ (0 < vars) × (c < w .nodes) × (mostNodes ≤ length (now reaches)) ⌝ }
+    ensures { λ r. ⌜ r ≡ grownWork (w .nodes) (w .len) mostNodes n ⌝ }
+    ensures { λ _. ⌜ now (nb .exit) ≡ putIn vars (becomeIn vars (now (nb .entry)) n 2 c) n (stateField + vars) c ⌝ }
+    ensures { λ _. ⌜ now (marks .exit) ≡ set (now (marks .entry)) n 1 ⌝ }
+    ensures { λ _. ⌜ now (reaches .exit) ≡ set (now (reaches .entry)) c (max (rowIn (now (reaches .entry)) c) (n + 1)) ⌝ }
 {
-    let vars = graph::variable_count(m);
-    let n = at.node;
-    let c = at.other;
     nodes::become_kind(vars, nb, n, COVERED, c);
     nodes::put_field(vars, nb, n, STATE + vars, c);
     marks[n] = 1;
@@ -186,20 +144,13 @@ fn make_cover(
 }
 
 // Node n becomes a target.
-fn make_target(
-    m: &[u8],
-    nb: &mut [u8],
-    masks: &[u16],
-    marks: &mut [u8],
-    reaches: &[u16],
-    longest: usize,
-    w: Work,
-    n: usize,
-) -> Work
-    requires { ⌜ Ready (now m) (now masks) longest w (now nb) (now marks) (now reaches) (some (reach n)) ⌝ }
-    ensures { λ r. ⌜ Made (now (m .entry)) (now (masks .entry)) longest w (now (nb .entry)) (some (reach n)) r (now (nb .exit)) (now (marks .exit)) (now (reaches .entry)) ⌝ }
+fn make_target(vars: usize, nb: &mut [u8], marks: &mut [u8], w: Work, n: usize) -> Work
+    requires { ⌜ Counted vars w (now nb) (now marks) n ⌝ }
+    ensures { λ r. ⌜ r ≡ grownWork (w .nodes) (w .len) n n ⌝ }
+    ensures { λ _. ⌜ now (nb .exit) ≡ becomeIn vars (now (nb .entry)) n 3 0 ⌝ }
+    ensures { λ _. ⌜ now (marks .exit) ≡ set (now (marks .entry)) n 1 ⌝ }
 {
-    nodes::become_kind(graph::variable_count(m), nb, n, TARGET, 0);
+    nodes::become_kind(vars, nb, n, TARGET, 0);
     marks[n] = 1;
     work::grown_work(w.nodes, w.len, n, n)
 }
@@ -208,15 +159,14 @@ fn make_target(
 fn make_expanded(
     m: &[u8],
     nb: &mut [u8],
-    masks: &[u16],
     marks: &mut [u8],
     reaches: &[u16],
     longest: usize,
     w: Work,
     n: usize,
 ) -> Work
-    requires { ⌜ Ready (now m) (now masks) longest w (now nb) (now marks) (now reaches) (some (expand n)) ⌝ }
-    ensures { λ r. ⌜ Made (now (m .entry)) (now (masks .entry)) longest w (now (nb .entry)) (some (expand n)) r (now (nb .exit)) (now (marks .exit)) (now (reaches .entry)) ⌝ }
+    requires { ⌜ Ready (now m) longest w (now nb) (now marks) (now reaches) (some (expand n)) ⌝ }
+    ensures { λ r. ⌜ Made (now (m .entry)) longest w (now (nb .entry)) (some (expand n)) r (now (nb .exit)) (now (marks .exit)) (now (reaches .entry)) ⌝ }
 {
     let vars = graph::variable_count(m);
     let mut state = [0i64; MOST_EXPRESSIONS];
@@ -244,46 +194,30 @@ fn make_expanded(
 pub fn make(
     m: &[u8],
     nb: &mut [u8],
-    masks: &[u16],
     marks: &mut [u8],
     reaches: &mut [u16],
     longest: usize,
     w: Work,
     mv: Move,
 ) -> Work
-    requires { ⌜ Ready (now m) (now masks) longest w (now nb) (now marks) (now reaches) (told mv) ⌝ }
+    requires { ⌜ Ready (now m) longest w (now nb) (now marks) (now reaches) (told mv) ⌝ }
     requires { ⌜ there (told mv) ≡ true ⌝ }
-    ensures { λ r. ⌜ Made (now (m .entry)) (now (masks .entry)) longest w (now (nb .entry)) (told mv) r (now (nb .exit)) (now (marks .exit)) (now (reaches .exit)) ⌝ }
+    ensures { λ r. ⌜ Made (now (m .entry)) longest w (now (nb .entry)) (told mv) r (now (nb .exit)) (now (marks .exit)) (now (reaches .exit)) ⌝ }
 {
+    let vars = graph::variable_count(m);
     match mv {
-        Move::Track(node, other) => {
-            make_track(
-                m,
-                nb,
-                masks,
-                marks,
-                reaches,
-                longest,
-                w,
-                Pair { node, other },
-            )
+        Move::Track(n, v) => {
+            nodes::track(vars, nb, n, v);
+            grow_label(m, nb, marks, reaches, w, n)
         }
-        Move::Adopt(n) => make_adopt(m, nb, masks, marks, reaches, longest, w, n),
-        Move::Drop(n) => make_drop(m, nb, masks, marks, reaches, longest, w, n),
-        Move::Cover(node, other) => {
-            make_cover(
-                m,
-                nb,
-                masks,
-                marks,
-                reaches,
-                longest,
-                w,
-                Pair { node, other },
-            )
+        Move::Adopt(n) => {
+            nodes::adopt(vars, nb, n);
+            grow_label(m, nb, marks, reaches, w, n)
         }
-        Move::Reach(n) => make_target(m, nb, masks, marks, reaches, longest, w, n),
-        Move::Expand(n) => make_expanded(m, nb, masks, marks, reaches, longest, w, n),
+        Move::Drop(n) => make_drop(vars, nb, marks, w, n),
+        Move::Cover(n, c) => make_cover(vars, nb, marks, reaches, w, n, c),
+        Move::Reach(n) => make_target(vars, nb, marks, w, n),
+        Move::Expand(n) => make_expanded(m, nb, marks, reaches, longest, w, n),
         Move::Nothing => w,
     }
 }

@@ -8,7 +8,7 @@ ghost use Rattle.folder.specs.Contents.{field};
 ghost use Rattle.expressions.specs.Mentions.{union};
 ghost use Rattle.model.specs.Limits.{mostVariables, mostCommands};
 ghost use Rattle.graph.specs.Simulation.{nodeSize};
-ghost use Rattle.held.specs.Held.{kindField, coverField, childField, trackedField, fieldCount, putIn, Whole};
+ghost use Rattle.held.specs.Held.{kindField, coverField, childField, trackedField, fieldCount, putIn, becomeIn, Whole};
 ghost use Rattle.nodes.specs.Born.{onIn, recordsIn, childrenIn, edgesIn, newField, newFields, ResultsFit, Node, Family, AllFit, Brood, BroodFits};
 
 // What the builder may do next. Track: node and variable. Cover: node and cover.
@@ -96,7 +96,7 @@ pub fn adopt(vars: usize, nb: &mut [u8], n: usize)
 pub fn become_kind(vars: usize, nb: &mut [u8], n: usize, kind: usize, cover: usize)
     requires { ⌜ (vars ≤ mostVariables) × (n ≤ fieldLimit) × (kind < fieldLimit) × (cover < fieldLimit) ⌝ }
     requires { ⌜ Whole vars (now nb) n ⌝ }
-    ensures { λ _. ⌜ now (nb .exit) ≡ putIn vars (putIn vars (now (nb .entry)) n kindField kind) n coverField cover ⌝ }
+    ensures { λ _. ⌜ now (nb .exit) ≡ becomeIn vars (now (nb .entry)) n kind cover ⌝ }
 {
     put_field(vars, nb, n, KIND, kind);
     put_field(vars, nb, n, COVER, cover);

@@ -69,6 +69,10 @@ stays-then p q s t = record {
   past = λ j h. t .past j h ∙ s .past j (omega arith);
 }
 
+-- The same part twice.
+pub stays-both : {a b : ℕ} {l mid new : List ℕ} → Stays a b l mid → Stays a b mid new → Stays a b l new
+stays-both s t = record { long = t .long ∙ s .long; below = λ j h. t .below j h ∙ s .below j h; past = λ j h. t .past j h ∙ s .past j h }
+
 -- More bytes may have changed than did.
 pub stays-wider : {a b c : ℕ} {l new : List ℕ} → b ≤ c → Stays a b l new → Stays a c l new
 stays-wider d s = record { long = s .long; below = s .below; past = λ j h. s .past j (omega arith) }

@@ -26,8 +26,13 @@ pub record FitsField (z : ℤ) : Type 0 where
   pub low : negsuc (farthestBound - 1) ≤ℤ z
   pub high : z ≤ℤ pos farthestBound
 
--- The bytes outside `from` to `to` stay.
+-- The elements outside `from` to `to` stay.
 pub record Stays (from to : ℕ) (old new : List ℕ) : Type 0 where
   pub long : length new ≡ length old
   pub below : (j : ℕ) → j < from → getD new j 0 ≡ getD old j 0
   pub past : (j : ℕ) → to ≤ j → getD new j 0 ≡ getD old j 0
+
+-- Those from `from` to `to` are what f makes of them, by their places.
+pub record Changed (from to : ℕ) (f : ℕ → ℕ → ℕ) (old new : List ℕ) : Type 0 where
+  pub stays : Stays from to old new
+  pub is : (k : ℕ) → from ≤ k → k < to → getD new k 0 ≡ f k (getD old k 0)

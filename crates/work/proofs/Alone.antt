@@ -35,8 +35,7 @@ use Rattle.building.proofs.Short.{seed-length}
 use Rattle.put.specs.Put.{Stays}
 use Rattle.held.specs.Held.{kindField, coverField, childField, parentField, trackedField, stateField, hintField, nodeIn, stateIn, setIn, heldIn}
 use Rattle.held.proofs.Made.{counted, counted-in, counted-past}
-use Rattle.wants.specs.Wants.{MasksOf}
-use Rattle.wants.specs.Standing.{readIn, parentIn, hintIn, rowIn, Held, Standing}
+use Rattle.wants.specs.Standing.{readIn, parentIn, hintIn, rowIn, Held}
 use Rattle.work.specs.declared.Work.{Work}
 use Rattle.work.specs.Working.{limitOf, graphIn, Lent, Known, Working}
 use Rattle.work.specs.Root.{rootField, Begun}
@@ -114,7 +113,7 @@ module _ (m : List ℕ) (valid : Valid m) (old new : List ℕ) (begun : Begun (v
   waits-not : {κ : Kind} → isWaiting κ ≡ false → (n : ℕ) → B .kind n ≡ κ → ⊥
   waits-not h n k = false≢true (sym h ∙ ap isWaiting (sym k ∙ kind-is n))
 
-  module _ (longest : ℕ) (room : leastBytes + nodeSize vars ≤ longest) (lent : longest ≤ leastBytes + length old) (limit : longest ≤ mostBytes) {masks marks reaches : List ℕ} (masked : MasksOf m masks) (none-marked : Blank marks) (none-reached : Blank reaches) where
+  module _ (longest : ℕ) (room : leastBytes + nodeSize vars ≤ longest) (lent : longest ≤ leastBytes + length old) (limit : longest ≤ mostBytes) {marks reaches : List ℕ} (none-marked : Blank marks) (none-reached : Blank reaches) where
     kept : Kept M mostNodes B
     kept = subst (λ (C : Building). Kept M mostNodes C) (sym alone) (kept-seed M (limitOf longest) (valid .model) (omega arith))
 
@@ -128,16 +127,12 @@ module _ (m : List ℕ) (valid : Valid m) (old new : List ℕ) (begun : Begun (v
       shut : {κ : Kind} → isWaiting κ ≡ false → (n : ℕ) → C .kind n ≡ κ → ⊥
       shut h n k = waits-not h n (ap (λ (G : Building). G .kind n) (sym same) ∙ k)
 
-      pub working : Working m masks longest w new marks reaches
+      pub working : Working m longest w new marks reaches
       working = record {
-        standing = record {
-          held = record {
-            model = valid;
-            kept = subst (λ (G : Building). Kept M mostNodes G) (sym same) kept;
-            long = rw one-node (omega (arith, begun .stays .long));
-          };
-          masked = masked;
-          read = record { is = λ i l k. absurd (shut refl i k) };
+        held = record {
+          model = valid;
+          kept = subst (λ (G : Building). Kept M mostNodes G) (sym same) kept;
+          long = rw one-node (omega (arith, begun .stays .long));
         };
         reached = subst (λ (G : Building). Reached M (limitOf longest) G) (sym (same ∙ alone)) (reached-start M (limitOf longest));
         lent = record {
@@ -147,6 +142,7 @@ module _ (m : List ℕ) (valid : Valid m) (old new : List ℕ) (begun : Begun (v
           limit = limit;
         };
         known = record {
+          read = record { is = λ i l k. absurd (shut refl i k) };
           parents = record { is = λ i l k. absurd (shut refl i k) };
           settled = record { is = λ i l d k. absurd (shut refl i k) };
           hints = record {

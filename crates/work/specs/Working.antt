@@ -19,7 +19,7 @@ use Rattle.building.specs.Built.{Reached}
 use Rattle.building.specs.Working.{ReadRight, ParentRight, Settled, HintRight, ReachRight, MarkRight, NextRight}
 use Rattle.put.specs.Put.{Stays}
 use Rattle.held.specs.Held.{heldIn}
-use Rattle.wants.specs.Standing.{readIn, parentIn, hintIn, rowIn, Held, Standing}
+use Rattle.wants.specs.Standing.{readIn, parentIn, hintIn, rowIn, Held}
 use Rattle.work.specs.declared.Work.{Work}
 
 -- At most 4,096 nodes, and so many bytes.
@@ -39,6 +39,7 @@ pub record Lent (m : List ℕ) (longest : ℕ) (w : Work) (nb : List ℕ) : Type
 
 -- What is known besides the graph.
 pub record Known (m : List ℕ) (w : Work) (nb marks reaches : List ℕ) : Type 0 where
+  pub read : ReadRight (modelOf m) (graphIn m w nb) (readIn m nb)
   pub parents : ParentRight (modelOf m) (graphIn m w nb) (parentIn m nb)
   pub settled : Settled (modelOf m) (graphIn m w nb) (w .fresh)
   pub hints : HintRight (modelOf m) (graphIn m w nb) (hintIn m nb) (w .fresh)
@@ -50,8 +51,8 @@ pub record Known (m : List ℕ) (w : Work) (nb marks reaches : List ℕ) : Type 
   pub bounds : ((i : ℕ) → i < w .nodes → parentIn m nb i < w .nodes) × ((x : ℕ) → rowIn reaches x ≤ w .nodes)
   pub rows : (mostNodes ≤ length marks) × (mostNodes ≤ length reaches)
 
-pub record Working (m masks : List ℕ) (longest : ℕ) (w : Work) (nb marks reaches : List ℕ) : Type 0 where
-  pub standing : Standing m masks (w .nodes) nb
+pub record Working (m : List ℕ) (longest : ℕ) (w : Work) (nb marks reaches : List ℕ) : Type 0 where
+  pub held : Held m (w .nodes) nb
   pub reached : Reached (modelOf m) (limitOf longest) (graphIn m w nb)
   pub lent : Lent m longest w nb
   pub known : Known m w nb marks reaches
@@ -90,11 +91,12 @@ ToMake m w nb marks (some (expand n)) = ToGrow m w nb marks n
 -- ---- a move made
 
 -- The move `mv` is the next one, and can be made.
-pub record Ready (m masks : List ℕ) (longest : ℕ) (w : Work) (nb marks reaches : List ℕ) (mv : Option Move) : Type 0 where
-  pub standing : Standing m masks (w .nodes) nb
+pub record Ready (m : List ℕ) (longest : ℕ) (w : Work) (nb marks reaches : List ℕ) (mv : Option Move) : Type 0 where
+  pub held : Held m (w .nodes) nb
   pub reached : Reached (modelOf m) (limitOf longest) (graphIn m w nb)
   pub lent : Lent m longest w nb
   pub next : mv ≡ nextMove (modelOf m) (limitOf longest) (graphIn m w nb)
+  pub read : ReadRight (modelOf m) (graphIn m w nb) (readIn m nb)
   pub parents : ParentRight (modelOf m) (graphIn m w nb) (parentIn m nb)
   pub settled : Settled (modelOf m) (graphIn m w nb) (w .fresh)
   pub covering : ReachRight (modelOf m) (graphIn m w nb) (rowIn reaches)
@@ -105,20 +107,32 @@ pub record Ready (m masks : List ℕ) (longest : ℕ) (w : Work) (nb marks reach
   pub to-make : ToMake m w nb marks mv
 
 -- It is made.
-pub record Made (m masks : List ℕ) (longest : ℕ) (w : Work) (nb : List ℕ) (mv : Option Move) (w′ : Work) (nb′ marks′ reaches′ : List ℕ) : Type 0 where
+pub record Made (m : List ℕ) (longest : ℕ) (w : Work) (nb : List ℕ) (mv : Option Move) (w′ : Work) (nb′ marks′ reaches′ : List ℕ) : Type 0 where
   pub is : graphIn m w′ nb′ ≡ moved (modelOf m) mv (graphIn m w nb)
-  pub working : Working m masks longest w′ nb′ marks′ reaches′
+  pub working : Working m longest w′ nb′ marks′ reaches′
   pub grows : w .nodes ≤ w′ .nodes
   pub stays : Stays 0 (nodeSize (variableCount m) * w′ .nodes) nb nb′
 
--- The window after node n's label has grown.
-pub record GrownWork (w : Work) (n parent end : ℕ) (w′ : Work) : Type 0 where
-  pub nodes : w′ .nodes ≡ w .nodes
-  pub len : w′ .len ≡ w .len
-  pub fresh : w′ .fresh ≡ w .fresh
-  pub next : w′ .next ≡ w .next
-  pub low : w′ .low ≡ pick (eqb end 0) (min n parent) 0
-  pub high : w′ .high ≡ max (w .high) (max (max n parent + 1) end)
+-- ---- the numbers after a move
+
+-- Node n, which waited, has been covered or opened: it alone is marked. `fresh` is the node opened last, if one was.
+abbrev pub grownWork : (nodes len fresh n : ℕ) → Work
+grownWork nodes len fresh n = record { nodes = nodes; len = len; fresh = fresh; low = n; high = n + 1; next = n }
+
+-- Node n waits again, and is marked no longer.
+abbrev pub droppedWork : Work → ℕ → Work
+droppedWork w n = record { nodes = w .nodes; len = w .len; fresh = w .fresh; low = n; high = max (w .high) n; next = min (w .next) n }
+
+-- Node n's label has grown: it is marked, and so are its parent and what it covers, which is below `end`.
+abbrev pub labelledWork : Work → (n parent end : ℕ) → Work
+labelledWork w n parent end = record {
+  nodes = w .nodes;
+  len = w .len;
+  fresh = w .fresh;
+  low = pick (eqb end 0) (min n parent) 0;
+  high = max (w .high) (max (max n parent + 1) end);
+  next = w .next;
+}
 
 -- What a graph that is built comes to, in the bytes that are lent.
 pub record Grown (m : List ℕ) (longest nodes len : ℕ) (nb : List ℕ) : Type 0 where

@@ -7,6 +7,7 @@ ghost use Rattle.folder.specs.Fields.{fieldLimit};
 ghost use Rattle.model.specs.Limits.{mostVariables};
 ghost use Rattle.graph.specs.Simulation.{nodeSize};
 ghost use Rattle.held.specs.Held.{stateField};
+ghost use Rattle.work.specs.Working.{grownWork};
 ghost use Rattle.work.specs.Root.{rootField, Begun};
 
 // Of a graph while it is built: how many nodes it has and how many bytes; which node was opened last, past all nodes if its
@@ -18,12 +19,6 @@ pub struct Work {
     pub low: usize,
     pub high: usize,
     pub next: usize,
-}
-
-// Two nodes, or a node and a variable.
-pub struct Pair {
-    pub node: usize,
-    pub other: usize,
 }
 
 pub fn smaller(a: usize, b: usize) -> usize
@@ -41,7 +36,7 @@ pub fn larger(a: usize, b: usize) -> usize
 // Node n, which waited, has been covered or opened: it alone is marked. `fresh` is the node opened last, if one was.
 pub fn grown_work(nodes: usize, len: usize, fresh: usize, n: usize) -> Work
     requires { ⌜ n < nodes ⌝ }
-    ensures { λ r. ⌜ (r .nodes ≡ nodes) × (r .len ≡ len) × (r .fresh ≡ fresh) × (r .low ≡ n) × (r .high ≡ n + 1) × (r .next ≡ n) ⌝ }
+    ensures { λ r. ⌜ r ≡ grownWork nodes len fresh n ⌝ }
 {
     Work {
         nodes,

@@ -6,9 +6,6 @@ use denote.Ref.{now}
 use borrow.Author.Needs.{needs}
 use Rattle.builder.proofs.build.Statement.{statement}
 use Rattle.builder.proofs.build.Tie as tie
-use borrow.Author.Needs.{needs}
-use Rattle.builder.proofs.build.Statement.{statement}
-use Rattle.builder.proofs.build.Tie as tie
 
 fill-mentions-requires : tie.Need-fill-mentions-requires
 fill-mentions-requires c κs = masks-asked (c .before .before .before .before .before .pre .0) (c .before .body .ensures)
@@ -17,9 +14,11 @@ put-root-requires : tie.Need-put-root-requires
 put-root-requires c κs = root-asked (c .before .before .before .before .before .before .before .before .before .pre .0) (c .before .before .before .before .before .before .variable-count .ensures .0) (now (c .before .before .before .before .before .before .before .before .before .args .nb)) (c .before .before .before .before .before .before .before .before .before .pre .1 .0) (c .before .before .before .before .before .before .before .before .before .pre .1 .1)
 
 grow-requires : tie.Need-grow-requires
-grow-requires c κs =
-    started (c .before .before .before .before .before .before .before .before .before .before .before .before .before .before .before .before .before .pre .0) (c .before .before .before .before .before .before .before .before .before .before .before .before .before .before .variable-count .ensures .0) _ (c .before .before .before .before .before .before .before .before .before .before .before .before .before .before .before .before .before .pre .1 .0) (c .before .before .before .before .before .before .before .before .before .before .before .before .before .before .before .before .before .pre .1 .1) (c .before .before .before .before .before .before .before .before .before .body2 .ensures) (c .before .before .before .before .before .before .before .put-root .ensures) (c .before .before .before .before .before .before .before .before .before .before .before .before .before .before .before .before .before .pre .1 .2)
-    (masks-filled (c .before .before .before .before .before .before .before .before .before .before .before .before .before .before .before .before .before .pre .0) (c .before .before .before .before .before .before .before .before .before .before .before .before .before .body .ensures) _ (c .before .before .before .before .before .before .before .before .before .before .before .fill-mentions .ensures)) zeros-blank zeros-blank _ refl (ap (λ (k : ℕ). leastBytes + k) (c .before .before .before .before .node-size .ensures .0)) refl refl refl refl
+grow-requires c κs = (
+  masks-filled (c .before .before .before .before .before .before .before .before .before .before .before .before .before .before .before .before .before .pre .0) (c .before .before .before .before .before .before .before .before .before .before .before .before .before .body .ensures) _ (c .before .before .before .before .before .before .before .before .before .before .before .fill-mentions .ensures),
+  started (c .before .before .before .before .before .before .before .before .before .before .before .before .before .before .before .before .before .pre .0) (c .before .before .before .before .before .before .before .before .before .before .before .before .before .before .variable-count .ensures .0) _ (c .before .before .before .before .before .before .before .before .before .before .before .before .before .before .before .before .before .pre .1 .0) (c .before .before .before .before .before .before .before .before .before .before .before .before .before .before .before .before .before .pre .1 .1) (c .before .before .before .before .before .before .before .before .before .body2 .ensures) (c .before .before .before .before .before .before .before .put-root .ensures) (c .before .before .before .before .before .before .before .before .before .before .before .before .before .before .before .before .before .pre .1 .2)
+      zeros-blank zeros-blank _ refl (ap (λ (k : ℕ). leastBytes + k) (c .before .before .before .before .node-size .ensures .0)) refl refl refl refl,
+)
 
 returns : tie.Need-returns
 returns c =
