@@ -14,3 +14,4 @@ pub mod Lengths
 pub mod Short
 pub mod Growing
 pub mod Working
+pub mod Counting

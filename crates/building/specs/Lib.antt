@@ -8,3 +8,4 @@ pub mod Kept
 pub mod Measure
 pub mod Near
 pub mod Working
+pub mod Counts
