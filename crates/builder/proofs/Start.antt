@@ -6,7 +6,8 @@ use mathlib.Core.List.{List}
 use native.Mathlib.Nat.{mul-le-mul-left}
 use native.Mathlib.Decide.{decLt}
 use native.Mathlib.Omega.{arith}
-use lib.ListN.{length, getD, replicate, length-replicate, getD-replicate, List·getD-eq-default}
+use lib.ListN.{length, getD, set, length-set, replicate, length-replicate, getD-replicate, List·getD-eq-default}
+use lib.Seq.{getD-set-same}
 use Rattle.folder.specs.Contents.{body, countOf}
 use Rattle.folder.specs.Fields.{fieldLimit}
 use Rattle.folder.specs.Tab.{fill}
@@ -28,7 +29,7 @@ use Rattle.wants.specs.Wants.{MasksOf}
 use Rattle.work.specs.declared.Work.{Work}
 use Rattle.work.specs.Working.{Working, Grown}
 use Rattle.work.specs.Root.{Begun}
-use Rattle.work.proofs.Alone.{Blank, working}
+use Rattle.work.proofs.Alone.{Blank, Begins, working}
 
 -- ---- rows of zeros
 pub zeros-blank : Blank (replicate mostNodes 0)
@@ -37,6 +38,10 @@ zeros-blank = record { long = omega (arith, length-replicate {A = ℕ} mostNodes
     go : (i : ℕ) → Dec (i < mostNodes) → _≡_ {A = ℕ} (getD (replicate mostNodes 0) i 0) 0
     go i (yes l) = getD-replicate {A = ℕ} mostNodes i 0 0 l
     go i (no d) = List·getD-eq-default (replicate mostNodes 0) 0 {n = i} (omega (arith, length-replicate {A = ℕ} mostNodes 0))
+
+-- A row whose first element is put.
+pub root-begins : (row : List ℕ) → mostNodes ≤ length row → Begins (set row 0 0)
+root-begins row l = record { long = omega (arith, length-set row 0 0); zero = getD-set-same row 0 0 0 (omega arith) }
 
 module _ {m x : List ℕ} (valid : Valid m) (e : x ≡ body m 2) where
   pub masks-asked : Written (entriesOf x) × ((countOf 8 x ≤ fieldLimit) × (countOf 8 x ≤ mostExpressions))
@@ -54,11 +59,11 @@ module _ {m : List ℕ} (valid : Valid m) {vars longest : ℕ} (v : vars ≡ var
     begun : Begun (variableCount m) (body m 1) (stateField + variableCount m + 1) nb new
     begun = rw (← v, ← p) b
 
-    pub started : longest ≤ mostBytes → {marks reaches : List ℕ} → Blank marks → Blank reaches → (w : Work) → w .nodes ≡ 1 → w .len ≡ leastBytes + nodeSize vars
-        → w .fresh ≡ mostNodes → w .low ≡ 0 → w .high ≡ 0 → w .next ≡ 0 → Working m longest w new marks reaches
-    started limit marks reaches w one len = working m valid nb new begun longest room lent limit marks reaches w one (len ∙ ap (λ (k : ℕ). leastBytes + nodeSize k) v)
+    pub started : longest ≤ mostBytes → {marks reaches begins : List ℕ} → Blank marks → Blank reaches → Begins begins → (w : Work) → w .nodes ≡ 1 → w .len ≡ leastBytes + nodeSize vars
+        → w .fresh ≡ mostNodes → w .low ≡ 0 → w .high ≡ 0 → w .next ≡ 0 → w .waiting ≡ 1 → Working m longest w new marks reaches begins
+    started limit marks reaches begins w one len = working m valid nb new begun longest room lent limit marks reaches begins w one (len ∙ ap (λ (k : ℕ). leastBytes + nodeSize k) v)
 
-    pub all-stays : {nodes len : ℕ} {end : List ℕ} → Grown m longest nodes len end → Stays 0 (nodeSize (variableCount m) * nodes) new end → Stays 0 (nodeSize (variableCount m) * nodes) nb end
+    pub all-stays : {nodes len : ℕ} {end begins : List ℕ} → Grown m longest nodes len end begins → Stays 0 (nodeSize (variableCount m) * nodes) new end → Stays 0 (nodeSize (variableCount m) * nodes) nb end
     all-stays {nodes} g s = record {
       long = s .long ∙ begun .stays .long;
       below = λ j h. absurd (omega arith);

@@ -1,13 +1,15 @@
 -- Document 02, 2.6: each move keeps the waiting count, and where each node's edges begin.
 -- Assumes nothing.
-use Prim.Native.Nat.{ℕ, _+_, _-_, _<_, _≤_}
+use Prim.Native.Nat.{ℕ, zero, suc, _+_, _-_, _<_, _≤_}
 use mathlib.Core.Path.{_≡_, refl, sym, ap, _∙_}
-use native.Mathlib.Decide.{decLt}
+use native.Mathlib.Nat.{le-step, le-refl}
+use native.Mathlib.Decide.{decLt, ℕ-discrete}
 use native.Mathlib.Omega.{arith}
 use borrow.Author.Tests.{le-leb, lt-leb, lt-ltb, le-ltb}
 use lib.Dec.{leb, ltb}
+use Rattle.mdp.specs.Sums.{sum}
 use Rattle.mdp.specs.Kinds.{Kind}
-use Rattle.mdp.proofs.SumLaws.{sum-more}
+use Rattle.mdp.proofs.SumLaws.{sum-more, sum-few}
 use Rattle.folder.specs.Pick.{pick}
 use Rattle.expressions.specs.Mentions.{union}
 use Rattle.model.specs.Model.{Model}
@@ -40,6 +42,42 @@ pub seed-counts : (M : Model) {begin : ℕ → ℕ} → begin 0 ≡ 0 → Counts
 unfolding waitingCount edgesBefore
 seed-counts M {begin} e = record { counted = refl; walked = λ i l. let z : i ≡ 0 = omega arith in rw z e }
 
+-- No more nodes wait than there are.
+one-or-none : (κ : Kind) → ifWaiting κ ≤ 1
+one-or-none Kind.waiting = omega arith
+one-or-none Kind.expanded = omega arith
+one-or-none Kind.covered = omega arith
+one-or-none Kind.target = omega arith
+
+pub waiting-few : {M : Model} {B : Building} {waiting : ℕ} {begin : ℕ → ℕ} → Counts M B waiting begin → waiting ≤ B .nodes
+unfolding waitingCount
+waiting-few {B = B} C = omega (arith, C .counted, sum-few 1 (B .nodes) (λ i. ifWaiting (B .kind i)) (λ i _. one-or-none (B .kind i)))
+
+-- ---- what the count tells: none waits, or some node does
+sum-some : (n : ℕ) (f : ℕ → ℕ) → (sum n (λ i _. f i) ≡ 0 → ⊥) → (i : ℕ) × (i < n) × (f i ≡ 0 → ⊥)
+sum-some zero f h = absurd (h refl)
+sum-some (suc n) f h = go (ℕ-discrete (f n) 0) (λ k. sum-some n f k)
+  where
+    go : Dec (f n ≡ 0) → ((sum n (λ i _. f i) ≡ 0 → ⊥) → (i : ℕ) × (i < n) × (f i ≡ 0 → ⊥)) → (i : ℕ) × (i < suc n) × (f i ≡ 0 → ⊥)
+    go (yes e) below = let p = below (λ z. h (omega arith)) in (p .0, le-step (p .1), p .2)
+    go (no d) below = (n, le-refl (suc n), d)
+
+one-waits : (κ : Kind) → (ifWaiting κ ≡ 0 → ⊥) → κ ≡ Kind.waiting
+one-waits Kind.waiting h = refl
+one-waits Kind.expanded h = absurd (h refl)
+one-waits Kind.covered h = absurd (h refl)
+one-waits Kind.target h = absurd (h refl)
+
+module _ (B : Building) where
+  pub none-waits : waitingCount B ≡ 0 → (i : ℕ) → i < B .nodes → B .kind i ≡ Kind.waiting → ⊥
+  unfolding waitingCount
+  none-waits e i l k = let w : ifWaiting (B .kind i) ≡ 1 = ap ifWaiting k in omega (arith, sum-more (B .nodes) (λ j. ifWaiting (B .kind j)) i l)
+
+  pub one-of-them : (waitingCount B ≡ 0 → ⊥) → (i : ℕ) × (i < B .nodes) × (B .kind i ≡ Kind.waiting)
+  unfolding waitingCount
+  one-of-them h = let p = sum-some (B .nodes) (λ i. ifWaiting (B .kind i)) h in (p .0, p .1, one-waits (B .kind (p .0)) (p .2))
+
+-- ---- each move
 module _ (M : Model) (B : Building) {waiting : ℕ} {begin : ℕ → ℕ} (C : Counts M B waiting begin) (n : ℕ) where
   -- ---- a label grows
   tracking-counts : (t : ℕ) → Counts M (tracking n t B) waiting begin

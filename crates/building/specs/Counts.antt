@@ -9,10 +9,14 @@ use Rattle.model.specs.Model.{Model}
 use Rattle.building.specs.Building.{Building}
 use Rattle.building.specs.Length.{edgesBefore, waitingCount}
 
+-- The edges of each node begin at `begin`, by walking them.
+abbrev pub Walked : Model → Building → (ℕ → ℕ) → Type 0
+Walked M B begin = (i : ℕ) → i < B .nodes → begin i ≡ edgesBefore M B i
+
 -- Both are what counting the nodes and walking the edges give.
 pub record Counts (M : Model) (B : Building) (waiting : ℕ) (begin : ℕ → ℕ) : Type 0 where
   pub counted : waiting ≡ waitingCount B
-  pub walked : (i : ℕ) → i < B .nodes → begin i ≡ edgesBefore M B i
+  pub walked : Walked M B begin
 
 -- Where the edges of node i begin once node n, one of `nodes`, is expanded: its edges have so many bytes, and all edges end at
 -- `end` then. Up to n as before; after it, later by its edges; those of each of the `births` new nodes at the end.

@@ -1,8 +1,8 @@
 -- Which kinds wait and which can cover, scans that start late, and what a covered node breaks.
 -- Assumes nothing.
-use Prim.Native.Nat.{ℕ, _<_, _≤_}
+use Prim.Native.Nat.{ℕ, _+_, _<_, _≤_}
 use mathlib.Core.Path.{_≡_, refl, sym, ap, _∙_}
-use mathlib.Core.Bool.{Bool, true, false, not, _&&_, _||_}
+use mathlib.Core.Bool.{Bool, true, false, false≢true, not, _&&_, _||_}
 use mathlib.Core.List.{List}
 use native.Mathlib.Decide.{decLt}
 use native.Mathlib.Omega.{arith}
@@ -20,7 +20,7 @@ use Rattle.model.specs.Limits.{mostVariables}
 use Rattle.graph.specs.Simulation.{nodeSize, kindOf}
 use Rattle.building.specs.Building.{isOpen}
 use Rattle.held.specs.Held.{coverField, trackedField}
-use Rattle.covers.specs.Covers.{isWaiting, at, agreesIn, canCoverIn, waitsIn, adoptedIn, faultIn, hintAt, loweredHint}
+use Rattle.covers.specs.Covers.{isWaiting, at, agreesIn, canCoverIn, waitsIn, adoptedIn, faultIn, hintAt, loweredHint, SomeWaits, LowestWaits}
 
 -- ---- kinds
 wait-by : (a b d : Bool) → ((not a && not b) && not d) ≡ isWaiting (pick a Kind.expanded (pick b Kind.covered (pick d Kind.target Kind.waiting)))
@@ -135,3 +135,17 @@ module _ (vars : ℕ) (nb : List ℕ) (n i : ℕ) {hint : ℕ} (p : hint ≡ hin
   pub hint-low : hint ≤ n → hint ≡ loweredHint vars nb n i
   unfolding loweredHint
   hint-low l = rw (le-ltb n (hintAt vars nb i) (omega arith)) p
+
+-- ---- the lowest node that waits, where some node does
+module _ {vars : ℕ} {nb : List ℕ} {n : ℕ} (S : SomeWaits vars nb n) {t : Bool} (e : t ≡ waitsIn vars nb n) where
+  pub waits-next : t ≡ false → SomeWaits vars nb (n + 1)
+  waits-next h =
+      let d : S .node ≡ n → ⊥ = λ q. false≢true (sym h ∙ e ∙ ap (waitsIn vars nb) (sym q) ∙ S .waits) in
+      record { node = S .node; later = omega (arith, S .later); within = S .within; waits = S .waits; below = λ i l. go i l (decLt i n) }
+    where
+      go : (i : ℕ) → i < n + 1 → Dec (i < n) → waitsIn vars nb i ≡ false
+      go i l (yes k) = S .below i k
+      go i l (no k) = let q : i ≡ n = omega arith in ap (waitsIn vars nb) q ∙ sym e ∙ h
+
+  pub waits-found : t ≡ true → LowestWaits vars nb n
+  waits-found h = record { waits = sym e ∙ h; below = S .below }

@@ -8,7 +8,7 @@ use lib.Dec.{ltb}
 use Rattle.mdp.specs.Kinds.{Kind}
 use Rattle.folder.specs.Pick.{pick, implies}
 use Rattle.folder.specs.Scan.{all}
-use Rattle.folder.specs.Fields.{signed16}
+use Rattle.folder.specs.Fields.{fieldLimit, signed16}
 use Rattle.folder.specs.Contents.{field}
 use Rattle.whole.specs.Order.{eqZ}
 use Rattle.expressions.specs.Reading.{hasBit}
@@ -54,6 +54,19 @@ module _ (vars : ℕ) (nb : List ℕ) where
 
   unfoldable pub loweredHint : ℕ → ℕ → ℕ
   loweredHint n i = pick (ltb n (hintAt i) && agreesIn n i) n (hintAt i)
+
+-- A node from `next` on waits, and none below it does.
+pub record SomeWaits (vars : ℕ) (nb : List ℕ) (next : ℕ) : Type 0 where
+  pub node : ℕ
+  pub later : next ≤ node
+  pub within : node < fieldLimit
+  pub waits : waitsIn vars nb node ≡ true
+  pub below : (i : ℕ) → i < next → waitsIn vars nb i ≡ false
+
+-- Node n waits, and none below it does.
+pub record LowestWaits (vars : ℕ) (nb : List ℕ) (n : ℕ) : Type 0 where
+  pub waits : waitsIn vars nb n ≡ true
+  pub below : (i : ℕ) → i < n → waitsIn vars nb i ≡ false
 
 -- The hints of the first i nodes are lowered, and nothing else is changed.
 pub record Lowered (vars n i : ℕ) (old new : List ℕ) : Type 0 where

@@ -20,7 +20,7 @@ ghost use Rattle.model.specs.Limits.{mostVariables};
 ghost use Rattle.graph.specs.Simulation.{nodeSize, kindOf};
 ghost use Rattle.building.specs.Building.{isOpen};
 ghost use Rattle.held.specs.Held.{fieldCount, putIn, Whole};
-ghost use Rattle.covers.specs.Covers.{isWaiting, sameAt, agreesIn, canCoverIn, waitsIn, faultIn, hintAt, loweredHint, Lowered};
+ghost use Rattle.covers.specs.Covers.{isWaiting, sameAt, agreesIn, canCoverIn, waitsIn, faultIn, hintAt, loweredHint, SomeWaits, LowestWaits, Lowered};
 
 fn is_waiting(k: usize) -> bool
     ensures { λ r. ⌜ r ≡ isWaiting (kindOf k) ⌝ }
@@ -107,17 +107,14 @@ fn waits(vars: usize, nb: &[u8], n: usize) -> bool
     is_waiting(folder::field(graph::node_size(vars), nb, n, KIND))
 }
 
-// The lowest node that waits; `nodes` if none does. None below `next` does.
-pub fn lowest_waiting(vars: usize, nb: &[u8], nodes: usize, next: usize) -> usize
-    requires { ⌜ (vars ≤ mostVariables) × (nodes ≤ fieldLimit) × (next ≤ nodes) ⌝ }
-    requires { ⌜ ((i : ℕ) → i < next → waitsIn vars (now nb) i ≡ false) ⌝ }
-    ensures { λ r. ⌜ r ≡ firstBad (λ i. not (waitsIn vars (now (nb .entry)) i)) nodes ⌝ }
+// The lowest node that waits: some node does, and none below `next`.
+pub fn lowest_waiting(vars: usize, nb: &[u8], next: usize) -> usize
+    requires { ⌜ vars ≤ mostVariables ⌝ }
+    requires { ⌜ SomeWaits vars (now nb) next ⌝ }
+    ensures { λ r. ⌜ LowestWaits vars (now (nb .entry)) r ⌝ }
 {
     let mut n = next;
-    while n < nodes {
-        if waits(vars, nb, n) {
-            return n;
-        }
+    while !waits(vars, nb, n) {
         n += 1;
     }
     n

@@ -5,6 +5,7 @@ use mathlib.Core.Path.{_≡_, refl, sym, ap, _∙_}
 use mathlib.Core.Bool.{true, false, not, false≢true}
 use mathlib.Core.Option.{Option, none, some}
 use mathlib.Core.List.{List}
+use native.Mathlib.Decide.{decLt}
 use native.Mathlib.Omega.{arith}
 use borrow.Author.Tests.{not-true, not-false}
 use Rattle.mdp.specs.Kinds.{Kind}
@@ -14,14 +15,17 @@ use Rattle.folder.proofs.ScanLaws.{found}
 use Rattle.model.specs.Layout.{variableCount}
 use Rattle.model.specs.Limits.{mostVariables}
 use Rattle.model.specs.Model.{modelOf}
+use Rattle.graph.specs.Limits.{mostNodes}
 use Rattle.building.specs.First.{_orelse_, given, onward}
 use Rattle.building.specs.Building.{Building}
+use Rattle.building.specs.Length.{waitingCount}
 use Rattle.building.specs.Moves.{Move, coverBy, Limit, waits, canCover, lowestWaiting, lowestCover, opening, growth}
 use Rattle.building.specs.Working.{HintRight, NextRight}
 use Rattle.building.proofs.FirstLaws.{first-here, first-nowhere}
+use Rattle.building.proofs.Counting.{none-waits, one-of-them}
 use Rattle.held.specs.Held.{heldIn}
 use Rattle.wants.specs.Standing.{hintIn, Held}
-use Rattle.covers.specs.Covers.{isWaiting, canCoverIn, waitsIn, hintAt}
+use Rattle.covers.specs.Covers.{isWaiting, canCoverIn, waitsIn, hintAt, SomeWaits, LowestWaits}
 use Rattle.repairs.proofs.Linked.{kind-here}
 use Rattle.growth.proofs.Counted.{can-here}
 
@@ -52,33 +56,44 @@ module _ (m : List ℕ) (nodes : ℕ) (nb : List ℕ) where
   unfolding waitsIn
   waits-here n l = ap isWaiting (kind-here m nodes nb n l)
 
+  -- None is counted.
+  waiting-none : waitingCount (heldIn m nodes nb) ≡ 0 → lowestWaiting (modelOf m) (heldIn m nodes nb) ≡ none
+  unfolding lowestWaiting
+  waiting-none e = first-nowhere (λ n. waits (B .kind n) n) nodes (λ i l. kind-stands (B .kind i) i (not-waiting (B .kind i) (none-waits B e i l)))
+
   module _ {vars : ℕ} (p : vars ≡ variableCount m) where
-    -- No node below `next` waits, by the records.
-    pub none-waits : {next : ℕ} → next ≤ nodes → NextRight (modelOf m) (heldIn m nodes nb) next → (i : ℕ) → i < next → waitsIn vars nb i ≡ false
-    none-waits few R i l =
-        let h : i < nodes = omega arith in
-        ap (λ (v : ℕ). waitsIn v nb i) p ∙ sym (waits-here i h) ∙ not-waiting (B .kind i) (R .is i h l)
+    waits-by : (i : ℕ) → i < nodes → waitsIn vars nb i ≡ isWaiting (B .kind i)
+    waits-by i l = ap (λ (v : ℕ). waitsIn v nb i) p ∙ sym (waits-here i l)
 
-    module _ {r : ℕ} (e : r ≡ firstBad (λ i. not (waitsIn vars nb i)) nodes) where
-      waits-not : (i : ℕ) → i < r → i < nodes → waits (B .kind i) i ≡ none
-      waits-not i l h =
-          kind-stands (B .kind i) i
-          (waits-here i h ∙ sym (ap (λ (v : ℕ). waitsIn v nb i) p) ∙ not-true (waitsIn vars nb i) (found (λ k. not (waitsIn vars nb k)) nodes .before i (omega (arith, e))))
+    -- One is, and no node below `next` waits.
+    pub waiting-there : nodes ≤ mostNodes → {next : ℕ} → next ≤ nodes → NextRight (modelOf m) (heldIn m nodes nb) next → (waitingCount (heldIn m nodes nb) ≡ 0 → ⊥) → SomeWaits vars nb next
+    waiting-there most {next} few R h =
+        let x = one-of-them B h in
+        record {
+          node = x .0;
+          later = go (x .0) (decLt (x .0) next) (x .1) (x .2);
+          within = omega (arith, x .1);
+          waits = waits-by (x .0) (x .1) ∙ ap isWaiting (x .2);
+          below = λ i l. waits-by i (omega arith) ∙ not-waiting (B .kind i) (R .is i (omega arith) l);
+        }
+      where
+        go : (i : ℕ) → Dec (i < next) → i < nodes → B .kind i ≡ Kind.waiting → next ≤ i
+        go i (yes l) h k = absurd (R .is i h l k)
+        go i (no d) h k = omega arith
 
-      pub waiting-none : r ≡ nodes → lowestWaiting (modelOf m) (heldIn m nodes nb) ≡ none
-      unfolding lowestWaiting
-      waiting-none q = first-nowhere (λ n. waits (B .kind n) n) nodes (λ i l. waits-not i (omega arith) l)
-
-      pub waiting-within : (r ≡ nodes → ⊥) → r < nodes
-      waiting-within d = let w = found (λ k. not (waitsIn vars nb k)) nodes .within in omega (arith, e)
+    module _ {r : ℕ} (e : LowestWaits vars nb r) where
+      pub waiting-within : (waitingCount (heldIn m nodes nb) ≡ 0 → ⊥) → r < nodes
+      waiting-within h = let x = one-of-them B h in go x (decLt (x .0) r)
+        where
+          go : (x : (i : ℕ) × (i < nodes) × (B .kind i ≡ Kind.waiting)) → Dec (x .0 < r) → r < nodes
+          go x (yes l) = absurd (false≢true (sym (e .below (x .0) l) ∙ waits-by (x .0) (x .1) ∙ ap isWaiting (x .2)))
+          go x (no d) = omega (arith, x .1)
 
       pub waiting-some : r < nodes → lowestWaiting (modelOf m) (heldIn m nodes nb) ≡ some r
       unfolding lowestWaiting
       waiting-some l =
-          first-here (λ n. waits (B .kind n) n) nodes r r l (λ j h. waits-not j h (omega arith))
-          (kind-waits (B .kind r) r
-          (waits-here r l ∙ sym (ap (λ (v : ℕ). waitsIn v nb r) p)
-          ∙ not-false (waitsIn vars nb r) (ap (λ (k : ℕ). not (waitsIn vars nb k)) e ∙ found (λ k. not (waitsIn vars nb k)) nodes .broken (omega (arith, e)))))
+          first-here (λ n. waits (B .kind n) n) nodes r r l (λ j h. kind-stands (B .kind j) j (sym (waits-by j (omega arith)) ∙ e .below j h))
+          (kind-waits (B .kind r) r (sym (waits-by r l) ∙ e .waits))
 
     -- Covers of node n.
     module _ (n : ℕ) (l : n < nodes) where
@@ -115,29 +130,28 @@ module _ (m : List ℕ) (nodes : ℕ) (nb : List ℕ) where
         unfolding lowestCover
         cover-some h = first-here (λ c. given (canCover (modelOf m) B n c) (some c)) nodes r r h (λ c k. given-not c k (omega arith)) (given-so h)
 
--- ---- what the scans ask
-module _ {m : List ℕ} {nodes : ℕ} {nb : List ℕ} (H : Held m nodes nb) {vars : ℕ} (p : vars ≡ variableCount m) (q : vars ≤ mostVariables) where
-  pub waiting-asked : {next : ℕ} → next ≤ nodes → NextRight (modelOf m) (heldIn m nodes nb) next
-      → ((vars ≤ mostVariables) × (nodes ≤ fieldLimit) × (next ≤ nodes)) × ((i : ℕ) → i < next → waitsIn vars nb i ≡ false)
-  waiting-asked l R = ((q, omega (arith, H .kept .few), l), none-waits m nodes nb p l R)
+-- ---- what the searches ask, where a node waits
+module _ {m : List ℕ} {nodes : ℕ} {nb : List ℕ} (H : Held m nodes nb) {vars : ℕ} (p : vars ≡ variableCount m) (q : vars ≤ mostVariables) (some-waits : waitingCount (heldIn m nodes nb) ≡ 0 → ⊥) where
+  pub waiting-asked : {next : ℕ} → next ≤ nodes → NextRight (modelOf m) (heldIn m nodes nb) next → (vars ≤ mostVariables) × SomeWaits vars nb next
+  waiting-asked l R = (q, waiting-there m nodes nb p (H .kept .few) l R some-waits)
 
-  pub cover-asked : {n : ℕ} → n ≡ firstBad (λ i. not (waitsIn vars nb i)) nodes → (n ≡ nodes → ⊥) → HintRight (modelOf m) (heldIn m nodes nb) (hintIn m nb) nodes
+  pub cover-asked : {n : ℕ} → LowestWaits vars nb n → HintRight (modelOf m) (heldIn m nodes nb) (hintIn m nb) nodes
       → ((vars ≤ mostVariables) × (nodes ≤ fieldLimit) × (n ≤ fieldLimit) × (hintAt vars nb n ≤ nodes)) × ((c : ℕ) → c < hintAt vars nb n → canCoverIn vars nb n c ≡ false)
-  cover-asked {n} e d R =
-      let l = waiting-within m nodes nb p e d in
+  cover-asked {n} e R =
+      let l = waiting-within m nodes nb p e some-waits in
       let f = H .kept .few in
       ((q, omega arith, omega arith, hint-within m nodes nb p n l R), none-covers m nodes nb p n l R (omega arith))
 
 -- ---- what becomes of the lowest node that waits
-module _ (m : List ℕ) (nodes : ℕ) (nb : List ℕ) {vars : ℕ} (p : vars ≡ variableCount m) {n : ℕ} (e : n ≡ firstBad (λ i. not (waitsIn vars nb i)) nodes) where
-  -- None waits.
-  pub grows-none : n ≡ nodes → (P : Limit) → none ≡ onward (lowestWaiting (modelOf m) (heldIn m nodes nb)) (growth (modelOf m) P (heldIn m nodes nb))
+module _ (m : List ℕ) (nodes : ℕ) (nb : List ℕ) where
+  -- None does.
+  pub grows-none : waitingCount (heldIn m nodes nb) ≡ 0 → (P : Limit) → none ≡ onward (lowestWaiting (modelOf m) (heldIn m nodes nb)) (growth (modelOf m) P (heldIn m nodes nb))
   unfolding onward
-  grows-none q P = rw (waiting-none m nodes nb p e q) refl
+  grows-none z P = rw (waiting-none m nodes nb z) refl
 
-  module _ (d : n ≡ nodes → ⊥) {c : ℕ} (k : c ≡ firstBad (λ i. not (canCoverIn vars nb n i)) nodes) (P : Limit) where
+  module _ {vars : ℕ} (p : vars ≡ variableCount m) (some-waits : waitingCount (heldIn m nodes nb) ≡ 0 → ⊥) {n : ℕ} (e : LowestWaits vars nb n) {c : ℕ} (k : c ≡ firstBad (λ i. not (canCoverIn vars nb n i)) nodes) (P : Limit) where
     there : n < nodes
-    there = waiting-within m nodes nb p e d
+    there = waiting-within m nodes nb p e some-waits
 
     -- It has a cover.
     pub grows-cover : c < nodes → some (coverBy n c) ≡ onward (lowestWaiting (modelOf m) (heldIn m nodes nb)) (growth (modelOf m) P (heldIn m nodes nb))

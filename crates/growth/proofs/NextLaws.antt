@@ -17,7 +17,7 @@ use Rattle.model.specs.Valid.{Valid}
 use Rattle.graph.specs.Limits.{mostNodes}
 use Rattle.building.specs.First.{_orelse_, there, given, onward, first}
 use Rattle.building.specs.Building.{Building}
-use Rattle.building.specs.Length.{graphLength}
+use Rattle.building.specs.Length.{graphLength, waitingCount}
 use Rattle.building.specs.Moves.{Limit, Move, track, adopt, drop, coverBy, reach, expand, truthWants, expandedWants, covered, adopted, repairAs, repair, waits, lowestWaiting, lowestCover, room, opening, growth, nextMove}
 use Rattle.building.specs.Kept.{Kept, Mended}
 use Rattle.building.specs.Working.{ReadRight, ParentRight, Settled, HintRight, MarkRight, NextRight}
@@ -168,10 +168,10 @@ module _ {m nb new last : List ℕ} {w : Work} (R : Reread m (w .nodes) nb new) 
   grow-long = S .stays .long ∙ R .stays .long
 
   -- What growing asks then.
-  pub grow-asked : {longest : ℕ} → Held m (w .nodes) nb → Lent m longest w nb → NextRight (modelOf m) (graphIn m w nb) (w .next) → w .next ≤ w .nodes
-      → Held m (w .nodes) last × (Lent m longest w last × (HintRight (modelOf m) (graphIn m w last) (hintIn m last) (w .nodes) × (NextRight (modelOf m) (graphIn m w last) (w .next) × (w .next ≤ w .nodes))))
-  grow-asked H L N l =
-      (held-still grow-same grow-long H, (lent-still grow-same grow-long L, (S .hints, (subst (λ (B : Building). NextRight (modelOf m) B (w .next)) (sym grow-same) N, l))))
+  pub grow-asked : {longest : ℕ} → Held m (w .nodes) nb → Lent m longest w nb → NextRight (modelOf m) (graphIn m w nb) (w .next) → w .next ≤ w .nodes → w .waiting ≡ waitingCount (graphIn m w nb)
+      → Held m (w .nodes) last × (Lent m longest w last × (HintRight (modelOf m) (graphIn m w last) (hintIn m last) (w .nodes) × (NextRight (modelOf m) (graphIn m w last) (w .next) × ((w .next ≤ w .nodes) × (w .waiting ≡ waitingCount (graphIn m w last))))))
+  grow-asked H L N l e =
+      (held-still grow-same grow-long H, (lent-still grow-same grow-long L, (S .hints, (subst (λ (B : Building). NextRight (modelOf m) B (w .next)) (sym grow-same) N, (l, e ∙ ap waitingCount (sym grow-same))))))
 
   -- What both leave.
   pub looked-both : Looked m w nb last

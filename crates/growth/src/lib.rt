@@ -10,6 +10,7 @@ ghost use lib.ListN.{length};
 ghost use Rattle.model.specs.Model.{modelOf};
 ghost use Rattle.graph.specs.Limits.{mostNodes};
 ghost use Rattle.building.specs.First.{onward};
+ghost use Rattle.building.specs.Length.{waitingCount};
 ghost use Rattle.building.specs.Moves.{opening, growth, lowestWaiting, nextMove};
 ghost use Rattle.building.specs.Working.{ParentRight, Settled, HintRight, MarkRight, NextRight};
 ghost use Rattle.nodes.specs.Told.{told};
@@ -48,14 +49,14 @@ fn growth_of(m: &[u8], nb: &[u8], longest: usize, w: Work) -> Move
     requires { ⌜ Lent (now m) longest w (now nb) ⌝ }
     requires { ⌜ HintRight (modelOf (now m)) (graphIn (now m) w (now nb)) (hintIn (now m) (now nb)) (w .nodes) ⌝ }
     requires { ⌜ NextRight (modelOf (now m)) (graphIn (now m) w (now nb)) (w .next) ⌝ }
-    requires { ⌜ w .next ≤ w .nodes ⌝ }
+    requires { ⌜ (w .next ≤ w .nodes) × (w .waiting ≡ waitingCount (graphIn (now m) w (now nb))) ⌝ }
     ensures { λ r. ⌜ told r ≡ onward (lowestWaiting (modelOf (now (m .entry))) (graphIn (now (m .entry)) w (now (nb .entry)))) (growth (modelOf (now (m .entry))) (limitOf longest) (graphIn (now (m .entry)) w (now (nb .entry)))) ⌝ }
 {
-    let vars = graph::variable_count(m);
-    let n = covers::lowest_waiting(vars, nb, w.nodes, w.next);
-    if n == w.nodes {
+    if w.waiting == 0 {
         return Move::Nothing;
     }
+    let vars = graph::variable_count(m);
+    let n = covers::lowest_waiting(vars, nb, w.next);
     let c = covers::lowest_cover(vars, nb, w.nodes, n);
     if c < w.nodes {
         return Move::Cover(n, c);
@@ -101,7 +102,7 @@ pub fn next_move(
     requires { ⌜ HintRight (modelOf (now m)) (graphIn (now m) w (now nb)) (hintIn (now m) (now nb)) (w .fresh) ⌝ }
     requires { ⌜ MarkRight (modelOf (now m)) (graphIn (now m) w (now nb)) (rowIn (now marks)) (w .low) (w .high) ⌝ }
     requires { ⌜ NextRight (modelOf (now m)) (graphIn (now m) w (now nb)) (w .next) ⌝ }
-    requires { ⌜ (w .low ≤ w .high) × (w .high ≤ w .nodes) × (w .next ≤ w .nodes) × (mostNodes ≤ length (now marks)) ⌝ }
+    requires { ⌜ (w .low ≤ w .high) × (w .high ≤ w .nodes) × (w .next ≤ w .nodes) × (mostNodes ≤ length (now marks)) × (w .waiting ≡ waitingCount (graphIn (now m) w (now nb))) ⌝ }
     ensures { λ r. ⌜ told r ≡ nextMove (modelOf (now (m .entry))) (limitOf longest) (graphIn (now (m .entry)) w (now (nb .entry))) ⌝ }
     ensures { λ _. ⌜ Looked (now (m .entry)) w (now (nb .entry)) (now (nb .exit)) ⌝ }
     ensures { λ r. ⌜ ToMake (now (m .entry)) w (now (nb .exit)) (now (marks .exit)) (told r) ⌝ }

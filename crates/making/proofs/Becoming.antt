@@ -1,6 +1,6 @@
 -- A kind changes: node n waits again, becomes a target, or is covered.
 -- Assumes nothing.
-use Prim.Native.Nat.{ℕ, _+_, _*_, _<_, _≤_, min, max}
+use Prim.Native.Nat.{ℕ, _+_, _-_, _*_, _<_, _≤_, min, max}
 use mathlib.Core.Path.{_≡_, refl, sym, ap, _∙_, subst}
 use mathlib.Core.Bool.{false≢true}
 use mathlib.Core.Option.{some}
@@ -19,10 +19,12 @@ use Rattle.graph.specs.Simulation.{nodeSize}
 use Rattle.building.specs.First.{put}
 use Rattle.building.specs.Building.{Building, kindNumber, ifExpanded}
 use Rattle.building.specs.Moves.{Move, drop, coverBy, reach, apply, becoming}
+use Rattle.building.specs.Counts.{Counts}
 use Rattle.building.specs.Working.{Settled, HintRight, ReachRight, MarkRight, NextRight}
 use Rattle.building.specs.Near.{OutOfReach}
 use Rattle.building.proofs.FirstLaws.{put-at, put-other}
 use Rattle.building.proofs.Lengths.{length-becoming}
+use Rattle.building.proofs.Counting.{drop-counts, cover-counts, reach-counts}
 use Rattle.building.proofs.Working.{read-becoming, settled-becoming, parent-becoming, hint-becoming, reach-becoming, next-becoming, mark-becoming, all-settled, hint-put}
 use Rattle.put.specs.Put.{Stays}
 use Rattle.put.proofs.PutLaws.{stays-both}
@@ -70,7 +72,7 @@ module _ (m nb : List ℕ) (n k c : ℕ) where
       stays-both (put-stays vars nb n kindField k (omega arith) nodes l) (put-stays vars (putIn vars nb n kindField k) n coverField c (omega arith) nodes l)
 
 -- ---- node n is not expanded, neither before nor after
-module _ {m : List ℕ} {longest : ℕ} {w : Work} {nb marks reaches : List ℕ} (mv : Move) (R : Ready m longest w nb marks reaches (some mv)) (n : ℕ) (κ : Kind) (c : ℕ)
+module _ {m : List ℕ} {longest : ℕ} {w : Work} {nb marks reaches begins : List ℕ} (mv : Move) (R : Ready m longest w nb marks reaches begins (some mv)) (n : ℕ) (κ : Kind) (c : ℕ)
     (same : becoming n κ c (graphIn m w nb) ≡ apply (modelOf m) mv (graphIn m w nb)) (was : ifExpanded (graphIn m w nb .kind n) 1 ≡ 0) (is : ifExpanded κ 1 ≡ 0) (new : List ℕ)
     (others : (i f : ℕ) → f < fieldCount (variableCount m) → (f ≡ kindField → ⊥) → (f ≡ coverField → ⊥) → (f ≡ hintField m → ⊥) → nodeIn m new i f ≡ nodeIn m nb i f) where
   abbrev M : Model
@@ -85,13 +87,13 @@ module _ {m : List ℕ} {longest : ℕ} {w : Work} {nb marks reaches : List ℕ}
   later : κ ≡ Kind.expanded → ⊥
   later e = let z : _≡_ {A = ℕ} 1 0 = sym (ap (λ (k : Kind). ifExpanded k 1) e) ∙ is in omega arith
 
-  kind-changed : (fresh low high next : ℕ) {marks′ reaches′ : List ℕ} → heldIn m (w .nodes) new ≡ apply M mv B
-      → Settled M B fresh → HintRight M U (hintIn m new) fresh → ReachRight M U (rowIn reaches′) → MarkRight M U (rowIn marks′) low high → NextRight M U next
+  kind-changed : (fresh low high next waiting : ℕ) {marks′ reaches′ : List ℕ} → heldIn m (w .nodes) new ≡ apply M mv B
+      → Settled M B fresh → HintRight M U (hintIn m new) fresh → ReachRight M U (rowIn reaches′) → MarkRight M U (rowIn marks′) low high → NextRight M U next → Counts M U waiting (rowIn begins)
       → (low ≤ high) × (high ≤ w .nodes) × (next ≤ w .nodes) × (fresh ≤ mostNodes) → ((x : ℕ) → rowIn reaches′ x ≤ w .nodes) → length marks′ ≡ length marks → length reaches′ ≡ length reaches
       → Stays 0 (nodeSize (variableCount m) * w .nodes) nb new
-      → Made m longest w nb (some mv) (working (w .nodes) (w .len) fresh low high next) new marks′ reaches′
-  kind-changed fresh low high next {marks′} {reaches′} held s h r k x window bound long longer stays = made mv R held
-      (subst (Knows m (working (w .nodes) (w .len) fresh low high next) new marks′ reaches′) same (record {
+      → Made m longest w nb (some mv) (working (w .nodes) (w .len) fresh low high next waiting) new marks′ reaches′ begins
+  kind-changed fresh low high next waiting {marks′} {reaches′} held s h r k x counts window bound long longer stays = made mv R held
+      (subst (Knows m (working (w .nodes) (w .len) fresh low high next waiting) new marks′ reaches′ begins) same (record {
         counted = R .lent .counted ∙ sym (length-becoming M B n κ c was is);
         read = rw (read-same m nb new others) (read-becoming M B n κ c later (R .read));
         parents = rw (parent-same m nb new others) (parent-becoming M B n κ c later (R .parents));
@@ -100,29 +102,30 @@ module _ {m : List ℕ} {longest : ℕ} {w : Work} {nb marks reaches : List ℕ}
         covering = r;
         marked = k;
         next = x;
+        counts = counts;
       }))
       (record {
         grows = omega arith;
         window = (window .0, window .1, window .2);
         fresh = window .3;
         bounds = (parent-low m nb new others (w .nodes) (R .bounds .0), bound);
-        rows = (omega (arith, R .rows .0), omega (arith, R .rows .1));
+        rows = (omega (arith, R .rows .0), omega (arith, R .rows .1), R .rows .2);
       })
       stays
 
 -- ---- n's cover is dropped
-module _ {m : List ℕ} {longest : ℕ} {w : Work} {nb marks reaches : List ℕ} {n : ℕ} (R : Ready m longest w nb marks reaches (some (drop n))) where
+module _ {m : List ℕ} {longest : ℕ} {w : Work} {nb marks reaches begins : List ℕ} {n : ℕ} (R : Ready m longest w nb marks reaches begins (some (drop n))) where
   drop-unmarked : (i : ℕ) → max (w .high) n ≤ i → Dec (i ≡ n) → rowIn (set marks n 0) i ≡ 0
   drop-unmarked i h (yes e) =
       ap (λ (j : ℕ). getD (set marks n 0) j 0) e ∙ getD-set-same marks n 0 0 (in-marks (drop n) R (told-of (drop n) R .0))
   drop-unmarked i h (no d) = getD-set-other marks n i 0 0 d ∙ R .to-make .marked .above i (omega arith)
 
-  pub dropped : Made m longest w nb (some (drop n)) (droppedWork w n) (becomeIn (variableCount m) nb n 0 0) (set marks n 0) reaches
+  pub dropped : Made m longest w nb (some (drop n)) (droppedWork w n) (becomeIn (variableCount m) nb n 0 0) (set marks n 0) reaches begins
   dropped =
       let g = told-of (drop n) R in
       let B : Building = graphIn m w nb in
       let later : Kind.waiting ≡ Kind.expanded → ⊥ = λ e. other-kind (λ z. omega arith) e in
-      kind-changed (drop n) R n Kind.waiting 0 refl (not-expanded (g .1) refl) refl (becomeIn (variableCount m) nb n 0 0) (kind-others m nb n 0 0) (w .fresh) n (max (w .high) n) (min (w .next) n)
+      kind-changed (drop n) R n Kind.waiting 0 refl (not-expanded (g .1) refl) refl (becomeIn (variableCount m) nb n 0 0) (kind-others m nb n 0 0) (w .fresh) n (max (w .high) n) (min (w .next) n) (w .waiting + 1)
       (drop-made m (w .nodes) nb (R .held .long) n (g .0))
       (R .settled)
       (rw (hint-same m nb n 0 0 (valid (drop n) R)) (hint-becoming (modelOf m) B n Kind.waiting 0 later (λ e. absurd (false≢true e)) (λ l. refl) (R .to-make .hints)))
@@ -132,6 +135,7 @@ module _ {m : List ℕ} {longest : ℕ} {w : Work} {nb marks reaches : List ℕ}
       (λ i l. getD-set-other marks n i 0 0 (λ e. omega arith) ∙ R .to-make .marked .below i l)
       (λ i h. drop-unmarked i h (ℕ-discrete i n)))
       (next-becoming (modelOf m) B n Kind.waiting 0 later (omega arith) (λ e. omega arith) (R .waits))
+      (drop-counts (modelOf m) B (R .counts) n (g .0) (g .1))
       (omega arith, omega (arith, R .window .0, g .0), omega (arith, R .window .1), R .window .2)
       (R .bounds .1)
       (length-set marks n 0)
@@ -151,7 +155,7 @@ module _ {m : List ℕ} {w : Work} {nb marks : List ℕ} {n : ℕ} (T : ToGrow m
   marked-alone i d = getD-set-other marks n i 1 0 d ∙ nothing-marked i
 
 -- Its kind, where it is not expanded.
-module _ {m : List ℕ} {longest : ℕ} {w : Work} {nb marks reaches : List ℕ} {n : ℕ} {mv : Move} (R : Ready m longest w nb marks reaches (some mv)) (T : ToGrow m w nb marks n)
+module _ {m : List ℕ} {longest : ℕ} {w : Work} {nb marks reaches begins : List ℕ} {n : ℕ} {mv : Move} (R : Ready m longest w nb marks reaches begins (some mv)) (T : ToGrow m w nb marks n)
     (l : n < w .nodes) (κ : Kind) (c : ℕ) (later : κ ≡ Kind.expanded → ⊥) (same : apply (modelOf m) mv (graphIn m w nb) ≡ becoming n κ c (graphIn m w nb))
     (near : (i : ℕ) → (i ≡ n → ⊥) → OutOfReach (modelOf m) (graphIn m w nb) i mv) where
   alone-marked : MarkRight (modelOf m) (becoming n κ c (graphIn m w nb)) (rowIn (set marks n 1)) n (n + 1)
@@ -161,19 +165,20 @@ module _ {m : List ℕ} {longest : ℕ} {w : Work} {nb marks reaches : List ℕ}
       (λ i p. marked-alone T i (λ e. omega arith))
 
 -- ---- n becomes a target
-module _ {m : List ℕ} {longest : ℕ} {w : Work} {nb marks reaches : List ℕ} {n : ℕ} (R : Ready m longest w nb marks reaches (some (reach n))) where
-  pub targeted : Made m longest w nb (some (reach n)) (grownWork (w .nodes) (w .len) n n) (becomeIn (variableCount m) nb n 3 0) (set marks n 1) reaches
+module _ {m : List ℕ} {longest : ℕ} {w : Work} {nb marks reaches begins : List ℕ} {n : ℕ} (R : Ready m longest w nb marks reaches begins (some (reach n))) where
+  pub targeted : Made m longest w nb (some (reach n)) (grownWork (w .nodes) (w .len) n (w .waiting - 1) n) (becomeIn (variableCount m) nb n 3 0) (set marks n 1) reaches begins
   targeted =
       let g = told-of (reach n) R in
       let B : Building = graphIn m w nb in
       let later : Kind.target ≡ Kind.expanded → ⊥ = λ e. other-kind (λ z. omega arith) e in
-      kind-changed (reach n) R n Kind.target 0 refl (not-expanded (g .1) refl) refl (becomeIn (variableCount m) nb n 3 0) (kind-others m nb n 3 0) n n (n + 1) n
+      kind-changed (reach n) R n Kind.target 0 refl (not-expanded (g .1) refl) refl (becomeIn (variableCount m) nb n 3 0) (kind-others m nb n 3 0) n n (n + 1) n (w .waiting - 1)
       (reach-made m (w .nodes) nb (R .held .long) n (g .0))
       (all-settled (modelOf m) B (R .to-make .mended) n)
       (rw (hint-same m nb n 3 0 (valid (reach n) R)) (hint-becoming (modelOf m) B n Kind.target 0 later (λ e. refl) (λ l. absurd (omega arith)) (R .to-make .hints)))
       (reach-becoming (modelOf m) B n Kind.target 0 later (λ e. other-kind (λ z. omega arith) e) (λ x. omega arith) (R .covering))
       (alone-marked R (R .to-make) (g .0) Kind.target 0 later refl (λ i d. d))
       (next-becoming (modelOf m) B n Kind.target 0 later (omega arith) (λ e. omega arith) (R .to-make .next))
+      (reach-counts (modelOf m) B (R .counts) n (g .0) (g .1))
       (omega arith, omega (arith, g .0), omega (arith, g .0), omega (arith, g .0, keeps (reach n) R .few))
       (R .bounds .1)
       (length-set marks n 1)
@@ -226,8 +231,8 @@ module _ (row : List ℕ) (c u : ℕ) (there : c < length row) where
       go (yes e) = subst Q (sym (ap (rowIn (set row c u)) e ∙ row-at)) (h e)
       go (no d) = subst Q (sym (getD-set-other row c x u 0 d)) g
 
-module _ {m : List ℕ} {longest : ℕ} {w : Work} {nb marks reaches : List ℕ} {n c : ℕ} (R : Ready m longest w nb marks reaches (some (coverBy n c))) where
-  pub covered : Made m longest w nb (some (coverBy n c)) (grownWork (w .nodes) (w .len) mostNodes n) (putIn (variableCount m) (becomeIn (variableCount m) nb n 2 c) n (hintField m) c) (set marks n 1) (set reaches c (max (rowIn reaches c) (n + 1)))
+module _ {m : List ℕ} {longest : ℕ} {w : Work} {nb marks reaches begins : List ℕ} {n c : ℕ} (R : Ready m longest w nb marks reaches begins (some (coverBy n c))) where
+  pub covered : Made m longest w nb (some (coverBy n c)) (grownWork (w .nodes) (w .len) mostNodes (w .waiting - 1) n) (putIn (variableCount m) (becomeIn (variableCount m) nb n 2 c) n (hintField m) c) (set marks n 1) (set reaches c (max (rowIn reaches c) (n + 1))) begins
   covered =
       let mv : Move = coverBy n c in
       let g = told-of mv R in
@@ -236,7 +241,7 @@ module _ {m : List ℕ} {longest : ℕ} {w : Work} {nb marks reaches : List ℕ}
       let small : c < fieldLimit = in-field mv R (g .2) in
       let row : c < length reaches = in-reaches mv R (g .2) in
       let later : Kind.covered ≡ Kind.expanded → ⊥ = λ e. other-kind (λ z. omega arith) e in
-      kind-changed mv R n Kind.covered c refl (not-expanded (g .1) refl) refl (last m nb n c v) (cover-others m nb n c v) mostNodes n (n + 1) n
+      kind-changed mv R n Kind.covered c refl (not-expanded (g .1) refl) refl (last m nb n c v) (cover-others m nb n c v) mostNodes n (n + 1) n (w .waiting - 1)
       (cover-held m nb n c v (w .nodes) (R .held .long) (g .0) small)
       (all-settled (modelOf m) B (R .to-make .mended) mostNodes)
       (rw (cover-hint m nb n c v (valid mv R) (record-there mv R (g .0) refl) small)
@@ -246,6 +251,7 @@ module _ {m : List ℕ} {longest : ℕ} {w : Work} {nb marks reaches : List ℕ}
       (λ x. row-all reaches c (max (rowIn reaches c) (n + 1)) row (λ (u : ℕ). rowIn reaches x ≤ u) x (λ e. rw e (omega arith)) (omega arith)) (R .covering))
       (alone-marked R (R .to-make) (g .0) Kind.covered c later refl (λ i d. d))
       (next-becoming (modelOf m) B n Kind.covered c later (omega arith) (λ e. omega arith) (R .to-make .next))
+      (cover-counts (modelOf m) B (R .counts) n (g .0) (g .1) c)
       (omega arith, omega (arith, g .0), omega (arith, g .0), omega arith)
       (λ x. row-all reaches c (max (rowIn reaches c) (n + 1)) row (λ (u : ℕ). u ≤ w .nodes) x (λ e. omega (arith, R .bounds .1 c, g .0)) (R .bounds .1 x))
       (length-set marks n 1)

@@ -6,9 +6,12 @@ use mathlib.Core.Option.{some}
 use mathlib.Core.List.{List, []}
 use native.Mathlib.Decide.{decLt}
 use native.Mathlib.Omega.{arith}
-use lib.ListN.{length, set, length-set}
+use lib.ListN.{length, getD, set, length-set}
 use lib.IntN.{ℤ}
-use Rattle.folder.specs.Fields.{fieldLimit}
+use Rattle.mdp.proofs.SumLaws.{sum-more}
+use Rattle.folder.specs.Fields.{fieldLimit, field4Limit}
+use Rattle.folder.specs.Tab.{tab}
+use Rattle.folder.proofs.TabLaws.{length-tab, getD-tab}
 use Rattle.folder.specs.Contents.{body, countOf}
 use Rattle.states.specs.Stated.{StateRow}
 use Rattle.model.specs.Layout.{variableCount}
@@ -19,21 +22,23 @@ use Rattle.model.proofs.Limits.{limits}
 use Rattle.graph.specs.Limits.{leastBytes, mostBytes, mostNodes}
 use Rattle.graph.specs.Simulation.{nodeSize}
 use Rattle.building.specs.Building.{Building, startSet, births}
-use Rattle.building.specs.Length.{edgesLength, graphLength, lengthWith}
-use Rattle.building.specs.Moves.{Limit, expand}
+use Rattle.building.specs.Length.{edgesLength, edgesOf, edgesBefore, graphLength, lengthWith}
+use Rattle.building.specs.Moves.{Limit, expanding, expand}
 use Rattle.building.specs.Kept.{Kept}
+use Rattle.building.specs.Counts.{Counts, beginAfter}
 use Rattle.building.proofs.Lengths.{length-expanding}
+use Rattle.building.proofs.Counting.{waiting-few, expand-counts}
 use Rattle.building.proofs.Working.{read-expanding, settled-expanding, parent-expanding, hint-expanding, reach-expanding, next-expanding, mark-expanding}
 use Rattle.put.proofs.PutLaws.{stays-both}
 use Rattle.held.specs.Held.{kindField, childField, parentField, readField, hintField, nodeIn, stateIn, setIn, putIn, NodeHere}
 use Rattle.held.proofs.Made.{counted-in}
 use Rattle.nodes.specs.Born.{recordsIn, childrenIn, edgesIn, Brood, BroodFits}
 use Rattle.nodes.proofs.Expanded.{records-few, children-is, edges-is, brood-fits, variables-some, expandedIn, expand-other, parent-is, read-none, hint-none, expand-made}
-use Rattle.wants.specs.Standing.{parentIn}
+use Rattle.wants.specs.Standing.{parentIn, rowIn}
 use Rattle.work.specs.Working.{limitOf, graphIn, ToGrow, Ready, Made, grownWork}
 use Rattle.work.specs.declared.Work.{Work}
 use Rattle.making.proofs.Marks.{none-set}
-use Rattle.making.proofs.Moving.{stays-wide, put-stays, valid, keeps, told-of, in-field, in-marks, made, made-as}
+use Rattle.making.proofs.Moving.{stays-wide, put-stays, valid, keeps, told-of, in-field, in-marks, one-waits as waits-one, made, made-as}
 use Rattle.making.proofs.Becoming.{marked-alone}
 
 -- The length that a graph has with a node expanded is that of its parts.
@@ -45,7 +50,17 @@ nodes-part : (M : Model) (B : Building) → leastBytes + nodeSize (M .variables)
 unfolding graphLength
 nodes-part M B = omega arith
 
-module _ {m : List ℕ} {longest : ℕ} {w : Work} {nb marks reaches : List ℕ} {n : ℕ} (R : Ready m longest w nb marks reaches (some (expand n))) where
+-- What is left of it is the edges.
+edges-part : (M : Model) (B : Building) → graphLength M B ≡ leastBytes + nodeSize (M .variables) * B .nodes + edgesBefore M B (B .nodes)
+unfolding graphLength
+edges-part M B = refl
+
+-- A node's edges begin before all edges end.
+begins-within : (M : Model) (B : Building) (i : ℕ) → i < B .nodes → edgesBefore M B i ≤ edgesBefore M B (B .nodes)
+unfolding edgesBefore
+begins-within M B i l = omega (arith, sum-more (B .nodes) (edgesOf M B) i l)
+
+module _ {m : List ℕ} {longest : ℕ} {w : Work} {nb marks reaches begins : List ℕ} {n : ℕ} (R : Ready m longest w nb marks reaches begins (some (expand n))) where
   abbrev M : Model
   M = modelOf m
 
@@ -145,6 +160,38 @@ module _ {m : List ℕ} {longest : ℕ} {w : Work} {nb marks reaches : List ℕ}
       pub there-still : n < w .nodes + b
       there-still = omega (arith, there)
 
+      -- Where all edges end then.
+      abbrev end : ℕ
+      end = w .len + (size * b + e) - (leastBytes + size * (w .nodes + b))
+
+      nodes-within : leastBytes + size * (w .nodes + b) + (edgesBefore M B (w .nodes) + e) ≡ w .len + (size * b + e)
+      nodes-within = rw (s, p) (omega (arith, R .lent .counted, edges-part M B))
+
+      pub end-is : end ≡ edgesBefore M B (w .nodes) + e
+      end-is = omega (arith, nodes-within)
+
+      pub size-fits : size * (w .nodes + b) < 2 ^ 64
+      size-fits = omega (arith, nodes-within, sum-small)
+
+      pub past-fits : leastBytes + size * (w .nodes + b) < 2 ^ 64
+      past-fits = omega (arith, nodes-within, sum-small)
+
+      pub past-within : leastBytes + size * (w .nodes + b) ≤ w .len + (size * b + e)
+      past-within = omega (arith, nodes-within)
+
+      -- What moving the beginnings asks.
+      pub may-begin : ((n < w .nodes) × (w .nodes + b ≤ length begins) × (end < field4Limit)) × ((i : ℕ) → n < i → i < w .nodes → getD begins i 0 + e < field4Limit)
+      may-begin = (
+        (there, omega (arith, few, x, R .rows .2), omega (arith, end-is, nodes-within, sum-small)),
+        λ i h l. omega (arith, R .counts .walked i l, begins-within M B i l, nodes-within, sum-small),
+      )
+
+      pub one-waits : 1 ≤ w .waiting
+      one-waits = waits-one (expand n) R there (told-of (expand n) R .1)
+
+      pub waiting-fits : w .waiting - 1 + b < 2 ^ 64
+      waiting-fits = omega (arith, waiting-few (R .counts), few, x)
+
     module _ {new : List ℕ} (brood : Brood (variableCount m) (body m 3) (body m 4) row n (w .nodes) (modelOf m .commands) nb new) where
       abbrev final : List ℕ
       final = expandedIn (variableCount m) new n (w .nodes)
@@ -166,7 +213,21 @@ module _ {m : List ℕ} {longest : ℕ} {w : Work} {nb marks reaches : List ℕ}
               let h : parentIn m final i ≡ n = ap (parentIn m final) e ∙ parent-is (valid (expand n) R) there brood j (omega arith) in
               omega (arith, there)
 
-      pub expanded : Made m longest w nb (some (expand n)) (grownWork (w .nodes + born) (w .len + (nodeSize (variableCount m) * born + bytes)) n n) final (set marks n 1) reaches
+      -- The row of beginnings then.
+      abbrev begun : List ℕ
+      begun = tab (length begins) (beginAfter n (w .nodes) born bytes (edgesBefore M B (w .nodes) + bytes) (rowIn begins))
+
+      begun-counts : Counts M (expanding M n B) (w .waiting - 1 + born) (rowIn begun)
+      begun-counts =
+          let c = expand-counts M B (R .counts) n there (told-of (expand n) R .1) in
+          record {
+            counted = ap (λ (x : ℕ). w .waiting - 1 + x) born-is ∙ c .counted;
+            walked = λ i l.
+                getD-tab 0 (length begins) (beginAfter n (w .nodes) born bytes (edgesBefore M B (w .nodes) + bytes) (rowIn begins)) i (omega (arith, l, few, born-is, R .rows .2))
+                ∙ (λ j. beginAfter n (w .nodes) (born-is j) (bytes-are j) (edgesBefore M B (w .nodes) + bytes-are j) (rowIn begins) i) ∙ c .walked i l;
+          }
+
+      pub expanded : Made m longest w nb (some (expand n)) (grownWork (w .nodes + born) (w .len + (nodeSize (variableCount m) * born + bytes)) n (w .waiting - 1 + born) n) final (set marks n 1) reaches begun
       expanded =
           let v = valid (expand n) R in
           let waits = told-of (expand n) R .1 in
@@ -184,13 +245,14 @@ module _ {m : List ℕ} {longest : ℕ} {w : Work} {nb marks reaches : List ℕ}
                 (λ i l z. let a = none-set marks n i (in-marks (expand n) R there) z in (a .1, a .0))
                 (λ i l. marked-alone T i (λ e. omega arith)) (λ i l. marked-alone T i (λ e. omega arith));
             next = next-expanding M P B K n there waits (omega arith) (T .next);
+            counts = begun-counts;
           })
           (record {
             grows = omega arith;
             window = (omega arith, omega (arith, there), omega (arith, there));
             fresh = omega (arith, there, K .few);
             bounds = (parent-low, λ x. omega (arith, R .bounds .1 x));
-            rows = (omega (arith, R .rows .0, length-set marks n 1), R .rows .1);
+            rows = (omega (arith, R .rows .0, length-set marks n 1), R .rows .1, omega (arith, R .rows .2, length-tab (length begins) (beginAfter n (w .nodes) born bytes (edgesBefore M B (w .nodes) + bytes) (rowIn begins))));
           })
           (stays-both (stays-wide (omega arith) (brood .stays))
           (stays-both (put-stays (variableCount m) new n kindField 1 (omega arith) (w .nodes + born) (omega (arith, there)))
@@ -198,6 +260,9 @@ module _ {m : List ℕ} {longest : ℕ} {w : Work} {nb marks reaches : List ℕ}
 
       -- With the numbers that the code has worked out.
       module _ {vars size b e : ℕ} (p : vars ≡ variableCount m) (s : size ≡ nodeSize vars) (x : b ≡ born) (y : e ≡ bytes) where
-        pub expanded-as : {w′ : Work} {last : List ℕ} → w′ ≡ grownWork (w .nodes + b) (w .len + (size * b + e)) n n → last ≡ expandedIn vars new n (w .nodes)
-            → Made m longest w nb (some (expand n)) w′ last (set marks n 1) reaches
-        expanded-as N h = made-as (N ∙ rw (s, p, x, y) refl) (h ∙ ap (λ (z : ℕ). expandedIn z new n (w .nodes)) p) refl refl expanded
+        pub expanded-as : {w′ : Work} {last row : List ℕ} → w′ ≡ grownWork (w .nodes + b) (w .len + (size * b + e)) n (w .waiting - 1 + b) n → last ≡ expandedIn vars new n (w .nodes)
+            → row ≡ tab (length begins) (beginAfter n (w .nodes) b e (end p s x y) (rowIn begins)) → Made m longest w nb (some (expand n)) w′ last (set marks n 1) reaches row
+        expanded-as {w′} {last} {row} N h r =
+            let q : row ≡ begun = r ∙ (λ i. tab (length begins) (beginAfter n (w .nodes) (x i) (y i) ((end-is p s x y ∙ ap (λ (k : ℕ). edgesBefore M B (w .nodes) + k) y) i) (rowIn begins))) in
+            subst (Made m longest w nb (some (expand n)) w′ last (set marks n 1) reaches) (sym q)
+            (made-as (N ∙ rw (s, p, x, y) refl) (h ∙ ap (λ (z : ℕ). expandedIn z new n (w .nodes)) p) refl refl expanded)

@@ -21,11 +21,13 @@ use Rattle.building.specs.Length.{graphLength, lengthWith}
 use Rattle.building.specs.Moves.{Limit, Move, track, adopt, drop, coverBy, reach, expand, apply, nextMove}
 use Rattle.building.specs.Kept.{Kept, Apt, may-track, may-adopt, may-drop, may-coverBy, may-reach, may-expand}
 use Rattle.building.specs.Built.{Reached}
+use Rattle.building.specs.Counts.{Counts}
 use Rattle.building.specs.Working.{ReadRight, ParentRight, Settled, HintRight, ReachRight, MarkRight, NextRight}
 use Rattle.building.proofs.Aptness.{next-apt}
 use Rattle.building.proofs.Keeping.{kept}
 use Rattle.building.proofs.Ending.{reached-by}
 use Rattle.building.proofs.Short.{short-kept}
+use Rattle.building.proofs.Counting.{some-waits}
 use Rattle.put.specs.Put.{Stays}
 use Rattle.held.specs.Held.{fieldCount, putIn, Whole}
 use Rattle.held.proofs.FieldLaws.{record-at, whole-at, put-within}
@@ -46,16 +48,17 @@ pub put-stays : (vars : ℕ) (nb : List ℕ) (n f u : ℕ) → f < fieldCount va
 put-stays vars nb n f u l nodes h = stays-wide (record-at (nodeSize vars) n nodes h) (put-within vars nb n f u l)
 
 -- ---- what a move leaves, by other names
-abbrev pub working : (nodes len fresh low high next : ℕ) → Work
-working nodes len fresh low high next = record { nodes = nodes; len = len; fresh = fresh; low = low; high = high; next = next }
+abbrev pub working : (nodes len fresh low high next waiting : ℕ) → Work
+working nodes len fresh low high next waiting = record { nodes = nodes; len = len; fresh = fresh; low = low; high = high; next = next; waiting = waiting }
 
-pub window-is : {nodes len fresh low low′ high high′ next next′ : ℕ} → low ≡ low′ → high ≡ high′ → next ≡ next′ → working nodes len fresh low high next ≡ working nodes len fresh low′ high′ next′
-window-is {nodes} {len} {fresh} p q r = λ i. working nodes len fresh (p i) (q i) (r i)
+pub window-is : {nodes len fresh low low′ high high′ next next′ waiting : ℕ} → low ≡ low′ → high ≡ high′ → next ≡ next′
+    → working nodes len fresh low high next waiting ≡ working nodes len fresh low′ high′ next′ waiting
+window-is {nodes} {len} {fresh} {waiting = waiting} p q r = λ i. working nodes len fresh (p i) (q i) (r i) waiting
 
 module _ {m nb : List ℕ} {longest : ℕ} {w : Work} {o : Option Move} where
-  pub made-as : {w′ w″ : Work} {nb′ nb″ marks′ marks″ reaches′ reaches″ : List ℕ} → w″ ≡ w′ → nb″ ≡ nb′ → marks″ ≡ marks′ → reaches″ ≡ reaches′
-      → Made m longest w nb o w′ nb′ marks′ reaches′ → Made m longest w nb o w″ nb″ marks″ reaches″
-  made-as p q r s h = transport (λ i. Made m longest w nb o (sym p i) (sym q i) (sym r i) (sym s i)) h
+  pub made-as : {w′ w″ : Work} {nb′ nb″ marks′ marks″ reaches′ reaches″ begins′ : List ℕ} → w″ ≡ w′ → nb″ ≡ nb′ → marks″ ≡ marks′ → reaches″ ≡ reaches′
+      → Made m longest w nb o w′ nb′ marks′ reaches′ begins′ → Made m longest w nb o w″ nb″ marks″ reaches″ begins′
+  made-as {begins′ = begins′} p q r s h = transport (λ i. Made m longest w nb o (sym p i) (sym q i) (sym r i) (sym s i) begins′) h
 
 -- ---- what a move that may be made tells of its node
 abbrev pub Given : Model → Limit → Building → Move → Type 0
@@ -75,7 +78,7 @@ given mv (may-reach l w t) = (l, w)
 given mv (may-expand l w t room fits) = (l, w, room, fits)
 
 -- ---- what is to be shown of the building C that the move makes, and of the rows
-pub record Knows (m : List ℕ) (w : Work) (nb marks reaches : List ℕ) (C : Building) : Type 0 where
+pub record Knows (m : List ℕ) (w : Work) (nb marks reaches begins : List ℕ) (C : Building) : Type 0 where
   pub counted : w .len ≡ graphLength (modelOf m) C
   pub read : ReadRight (modelOf m) C (readIn m nb)
   pub parents : ParentRight (modelOf m) C (parentIn m nb)
@@ -84,20 +87,21 @@ pub record Knows (m : List ℕ) (w : Work) (nb marks reaches : List ℕ) (C : Bu
   pub covering : ReachRight (modelOf m) C (rowIn reaches)
   pub marked : MarkRight (modelOf m) C (rowIn marks) (w .low) (w .high)
   pub next : NextRight (modelOf m) C (w .next)
+  pub counts : Counts (modelOf m) C (w .waiting) (rowIn begins)
 
-pub record Within (m : List ℕ) (old : ℕ) (w : Work) (nb marks reaches : List ℕ) : Type 0 where
+pub record Within (m : List ℕ) (old : ℕ) (w : Work) (nb marks reaches begins : List ℕ) : Type 0 where
   pub grows : old ≤ w .nodes
   pub window : (w .low ≤ w .high) × (w .high ≤ w .nodes) × (w .next ≤ w .nodes)
   pub fresh : w .fresh ≤ mostNodes
   pub bounds : ((i : ℕ) → i < w .nodes → parentIn m nb i < w .nodes) × ((x : ℕ) → rowIn reaches x ≤ w .nodes)
-  pub rows : (mostNodes ≤ length marks) × (mostNodes ≤ length reaches)
+  pub rows : (mostNodes ≤ length marks) × (mostNodes ≤ length reaches) × (mostNodes ≤ length begins)
 
 -- The nodes take part of the length.
 nodes-within : (M : Model) (C : Building) (nodes : ℕ) → C .nodes ≡ nodes → {l : ℕ} → graphLength M C ≤ leastBytes + l → nodeSize (M .variables) * nodes ≤ l
 unfolding graphLength
 nodes-within M C nodes e h = rw (← e) (omega arith)
 
-module _ {m : List ℕ} {longest : ℕ} {w : Work} {nb marks reaches : List ℕ} (mv : Move) (R : Ready m longest w nb marks reaches (some mv)) where
+module _ {m : List ℕ} {longest : ℕ} {w : Work} {nb marks reaches begins : List ℕ} (mv : Move) (R : Ready m longest w nb marks reaches begins (some mv)) where
   abbrev M : Model
   M = modelOf m
 
@@ -139,6 +143,9 @@ module _ {m : List ℕ} {longest : ℕ} {w : Work} {nb marks reaches : List ℕ}
     pub record-there : {vars : ℕ} → vars ≡ variableCount m → Whole vars nb n
     record-there e = subst (λ (v : ℕ). Whole v nb n) (sym e) (whole-at (variableCount m) nb n (w .nodes) l (R .held .long))
 
+    pub one-waits : B .kind n ≡ Kind.waiting → 1 ≤ w .waiting
+    one-waits k = some-waits M B (R .counts) n l k
+
     pub counted : {vars : ℕ} → vars ≡ variableCount m → vars ≤ mostVariables → Counted vars w nb marks n
     counted e v = record { variables = v; within = l; few = keeps .few; whole = record-there e; marks-long = R .rows .0 }
 
@@ -148,10 +155,10 @@ module _ {m : List ℕ} {longest : ℕ} {w : Work} {nb marks reaches : List ℕ}
   after-short : graphLength M (apply M mv B) ≤ longest
   after-short = short-kept M P B mv apt (rw (← R .lent .counted) (R .lent .short))
 
-  pub made : {w′ : Work} {nb′ marks′ reaches′ : List ℕ} → graphIn m w′ nb′ ≡ apply M mv B → Knows m w′ nb′ marks′ reaches′ (apply M mv B) → Within m (w .nodes) w′ nb′ marks′ reaches′
-      → Stays 0 (nodeSize (variableCount m) * w′ .nodes) nb nb′ → Made m longest w nb (some mv) w′ nb′ marks′ reaches′
-  made {w′} {nb′} {marks′} {reaches′} e f h s =
-      let k : Knows m w′ nb′ marks′ reaches′ (graphIn m w′ nb′) = subst (Knows m w′ nb′ marks′ reaches′) (sym e) f in
+  pub made : {w′ : Work} {nb′ marks′ reaches′ begins′ : List ℕ} → graphIn m w′ nb′ ≡ apply M mv B → Knows m w′ nb′ marks′ reaches′ begins′ (apply M mv B)
+      → Within m (w .nodes) w′ nb′ marks′ reaches′ begins′ → Stays 0 (nodeSize (variableCount m) * w′ .nodes) nb nb′ → Made m longest w nb (some mv) w′ nb′ marks′ reaches′ begins′
+  made {w′} {nb′} {marks′} {reaches′} {begins′} e f h s =
+      let k : Knows m w′ nb′ marks′ reaches′ begins′ (graphIn m w′ nb′) = subst (Knows m w′ nb′ marks′ reaches′ begins′) (sym e) f in
       record {
         is = e;
         working = record {
@@ -175,6 +182,7 @@ module _ {m : List ℕ} {longest : ℕ} {w : Work} {nb marks reaches : List ℕ}
             covering = k .covering;
             marked = k .marked;
             next = k .next;
+            counts = k .counts;
             window = h .window;
             fresh = h .fresh;
             bounds = h .bounds;
@@ -186,11 +194,13 @@ module _ {m : List ℕ} {longest : ℕ} {w : Work} {nb marks reaches : List ℕ}
       }
 
 -- ---- the move that the code was told
-pub ready-by : {m : List ℕ} {longest : ℕ} {w : Work} {nb marks reaches : List ℕ} {found is : Found} → found ≡ is → Ready m longest w nb marks reaches (told found) → Ready m longest w nb marks reaches (told is)
-ready-by {m} {longest} {w} {nb} {marks} {reaches} e h = subst (λ (f : Found). Ready m longest w nb marks reaches (told f)) e h
+pub ready-by : {m : List ℕ} {longest : ℕ} {w : Work} {nb marks reaches begins : List ℕ} {found is : Found} → found ≡ is
+    → Ready m longest w nb marks reaches begins (told found) → Ready m longest w nb marks reaches begins (told is)
+ready-by {m} {longest} {w} {nb} {marks} {reaches} {begins} e h = subst (λ (f : Found). Ready m longest w nb marks reaches begins (told f)) e h
 
-pub made-by : {m : List ℕ} {longest : ℕ} {w w′ : Work} {nb nb′ marks′ reaches′ : List ℕ} {found is : Found} → found ≡ is → Made m longest w nb (told is) w′ nb′ marks′ reaches′ → Made m longest w nb (told found) w′ nb′ marks′ reaches′
-made-by {m} {longest} {w} {w′} {nb} {nb′} {marks′} {reaches′} e h = subst (λ (f : Found). Made m longest w nb (told f) w′ nb′ marks′ reaches′) (sym e) h
+pub made-by : {m : List ℕ} {longest : ℕ} {w w′ : Work} {nb nb′ marks′ reaches′ begins′ : List ℕ} {found is : Found} → found ≡ is
+    → Made m longest w nb (told is) w′ nb′ marks′ reaches′ begins′ → Made m longest w nb (told found) w′ nb′ marks′ reaches′ begins′
+made-by {m} {longest} {w} {w′} {nb} {nb′} {marks′} {reaches′} {begins′} e h = subst (λ (f : Found). Made m longest w nb (told f) w′ nb′ marks′ reaches′ begins′) (sym e) h
 
 pub nothing-told : {found : Found} {A : Type 0} → found ≡ Nothing → there (told found) ≡ true → A
 nothing-told e h = absurd (false≢true (ap (λ (f : Found). there (told f)) (sym e) ∙ h))

@@ -27,8 +27,10 @@ use Rattle.graph.specs.Simulation.{nodeSize, kindOf}
 use Rattle.building.specs.Building.{Building, startSet, kindNumber}
 use Rattle.building.specs.Moves.{Limit, Move, track, adopt, tracking, apply}
 use Rattle.building.specs.Near.{Clear, OutOfReach}
+use Rattle.building.specs.Counts.{Counts}
 use Rattle.building.specs.Working.{MarkRight}
 use Rattle.building.proofs.Lengths.{length-tracking}
+use Rattle.building.proofs.Counting.{track-counts, adopt-counts}
 use Rattle.building.proofs.SetLaws.{union-small}
 use Rattle.building.proofs.Working.{read-tracking, settled-tracking, parent-tracking, hint-tracking, reach-tracking, next-tracking, mark-growing, clear-by}
 use Rattle.put.specs.Put.{Stays}
@@ -71,7 +73,7 @@ low-within n parent end = go (ℕ-discrete end 0)
     go (yes e) = rw (eq-eqb end 0 e) (omega arith)
     go (no d) = rw (ne-eqb end 0 d) (omega arith)
 
-module _ {m : List ℕ} {longest : ℕ} {w : Work} {nb marks reaches : List ℕ} (mv : Move) (R : Ready m longest w nb marks reaches (some mv)) (n : ℕ) (there : n < w .nodes) (u : ℕ) (new : List ℕ)
+module _ {m : List ℕ} {longest : ℕ} {w : Work} {nb marks reaches begins : List ℕ} (mv : Move) (R : Ready m longest w nb marks reaches begins (some mv)) (n : ℕ) (there : n < w .nodes) (u : ℕ) (new : List ℕ)
     (put : new ≡ putIn (variableCount m) nb n trackedField u) where
   abbrev M : Model
   M = modelOf m
@@ -99,7 +101,7 @@ module _ {m : List ℕ} {longest : ℕ} {w : Work} {nb marks reaches : List ℕ}
 
   -- What marking asks.
   pub may-mark : Valid m × ((n < w .nodes) × (w .nodes ≤ mostNodes) × (w .high ≤ w .nodes) × (parentIn m new n < w .nodes) × (rowIn reaches n ≤ w .nodes)) × ((mostNodes ≤ length marks) × (mostNodes ≤ length reaches))
-  may-mark = (valid mv R, (there, keeps mv R .few, R .window .0, parent-low n there, R .bounds .1 n), R .rows)
+  may-mark = (valid mv R, (there, keeps mv R .few, R .window .0, parent-low n there, R .bounds .1 n), (R .rows .0, R .rows .1))
 
   -- Whoever is covered by n is seen to be so.
   under-seen : (i : ℕ) → i < w .nodes → B .kind i ≡ Kind.covered → B .cover i ≡ n → isUnder (variableCount m) new n i ≡ true
@@ -124,13 +126,13 @@ module _ {m : List ℕ} {longest : ℕ} {w : Work} {nb marks reaches : List ℕ}
         (λ i h. G .same i (λ q. omega arith) (λ q. omega arith) (omega arith) ∙ T .marked .above i (omega arith))
 
     pub label-grown : (t : ℕ) → tracking n t B ≡ apply M mv B → ((v : ℕ) → hasBit (B .tracked n) v ≡ true → hasBit t v ≡ true) → t < 2 ^ M .variables → heldIn m (w .nodes) new ≡ apply M mv B
-        → Made m longest w nb (some mv) (labelledWork w n (parentIn m new n) (rowIn reaches n)) new marks′ reaches
-    label-grown t same more small held =
+        → Counts M (tracking n t B) (w .waiting) (rowIn begins) → Made m longest w nb (some mv) (labelledWork w n (parentIn m new n) (rowIn reaches n)) new marks′ reaches begins
+    label-grown t same more small held counts =
         let low : ℕ = pick (eqb (rowIn reaches n) 0) (min n (parentIn m new n)) 0 in
         let high : ℕ = max (w .high) (max (max n (parentIn m new n) + 1) (rowIn reaches n)) in
         let K = keeps mv R in
         made mv R held
-        (subst (Knows m (working (w .nodes) (w .len) (w .fresh) low high (w .next)) new marks′ reaches) same (record {
+        (subst (Knows m (working (w .nodes) (w .len) (w .fresh) low high (w .next) (w .waiting)) new marks′ reaches begins) same (record {
           counted = R .lent .counted ∙ sym (length-tracking M B n t);
           read = rw read-same (read-tracking M P B K n t more small (R .read));
           parents = rw parent-same (parent-tracking M P B K n t more small (R .parents));
@@ -139,18 +141,19 @@ module _ {m : List ℕ} {longest : ℕ} {w : Work} {nb marks reaches : List ℕ}
           covering = reach-tracking M P B K n t more small (R .covering);
           marked = subst (λ (C : Building). MarkRight M C (rowIn marks′) low high) (sym same) (grown-marked (ap (λ (C : Building). C .nodes) (sym same)));
           next = next-tracking M P B K n t more small (R .waits);
+          counts = counts;
         }))
         (record {
           grows = omega arith;
           window = (omega (arith, low-within n (parentIn m new n) (rowIn reaches n)), omega (arith, there, R .window .0, parent-low n there, R .bounds .1 n), R .window .1);
           fresh = R .window .2;
           bounds = (parent-low, R .bounds .1);
-          rows = (omega (arith, R .rows .0, G .long), R .rows .1);
+          rows = (omega (arith, R .rows .0, G .long), R .rows .1, R .rows .2);
         })
         (subst (λ (bytes : List ℕ). Stays 0 (nodeSize (variableCount m) * w .nodes) nb bytes) (sym put) (put-stays (variableCount m) nb n trackedField u (omega arith) (w .nodes) there))
 
 -- ---- n tracks variable v
-module _ {m : List ℕ} {longest : ℕ} {w : Work} {nb marks reaches : List ℕ} {n v : ℕ} (R : Ready m longest w nb marks reaches (some (track n v))) where
+module _ {m : List ℕ} {longest : ℕ} {w : Work} {nb marks reaches begins : List ℕ} {n v : ℕ} (R : Ready m longest w nb marks reaches begins (some (track n v))) where
   abbrev trackedIn : List ℕ
   trackedIn = putIn (variableCount m) nb n trackedField (union (setIn m nb n) (2 ^ v))
 
@@ -158,7 +161,7 @@ module _ {m : List ℕ} {longest : ℕ} {w : Work} {nb marks reaches : List ℕ}
   tracked-is e h = h ∙ ap (λ (x : ℕ). putIn x nb n trackedField (union (field (nodeSize x) nb n trackedField) (2 ^ v))) e
 
   pub track-grown : {new marks′ : List ℕ} → new ≡ trackedIn → MarkedReach (variableCount m) new n (parentIn m new n) (rowIn reaches n) marks marks′
-      → Made m longest w nb (some (track n v)) (labelledWork w n (parentIn m new n) (rowIn reaches n)) new marks′ reaches
+      → Made m longest w nb (some (track n v)) (labelledWork w n (parentIn m new n) (rowIn reaches n)) new marks′ reaches begins
   track-grown {new} e G =
       let mv : Move = track n v in
       let g = told-of mv R in
@@ -169,10 +172,10 @@ module _ {m : List ℕ} {longest : ℕ} {w : Work} {nb marks reaches : List ℕ}
       let fits : union (setIn m nb n) (2 ^ v) < fieldLimit = union-field (setIn m nb n) (2 ^ v) (set-field (variableCount m) (setIn m nb n) few set) (bit-field v (omega (arith, g .1, few))) in
       label-grown mv R n (g .0) (union (setIn m nb n) (2 ^ v)) new e (R .to-make) (λ i c. c) G (union (B .tracked n) (2 ^ v)) refl (λ x h. in-left (B .tracked n) (2 ^ v) x h)
       (union-small (variableCount m) (B .tracked n) (2 ^ v) (K .small n (g .0)) (pow-lt (g .1)))
-      (ap (heldIn m (w .nodes)) e ∙ track-made m (w .nodes) nb (R .held .long) n (g .0) v fits)
+      (ap (heldIn m (w .nodes)) e ∙ track-made m (w .nodes) nb (R .held .long) n (g .0) v fits) (track-counts (modelOf m) B (R .counts) n v)
 
 -- ---- n tracks what its cover tracks
-module _ {m : List ℕ} {longest : ℕ} {w : Work} {nb marks reaches : List ℕ} {n : ℕ} (R : Ready m longest w nb marks reaches (some (adopt n))) where
+module _ {m : List ℕ} {longest : ℕ} {w : Work} {nb marks reaches begins : List ℕ} {n : ℕ} (R : Ready m longest w nb marks reaches begins (some (adopt n))) where
   abbrev cover : ℕ
   cover = nodeIn m nb n coverField
 
@@ -185,7 +188,7 @@ module _ {m : List ℕ} {longest : ℕ} {w : Work} {nb marks reaches : List ℕ}
       h ∙ ap (λ (x : ℕ). putIn x nb n trackedField (union (field (nodeSize x) nb n trackedField) (field (nodeSize x) nb (field (nodeSize x) nb n coverField) trackedField))) e
 
   pub adopt-grown : {new marks′ : List ℕ} → new ≡ adoptedIn → MarkedReach (variableCount m) new n (parentIn m new n) (rowIn reaches n) marks marks′
-      → Made m longest w nb (some (adopt n)) (labelledWork w n (parentIn m new n) (rowIn reaches n)) new marks′ reaches
+      → Made m longest w nb (some (adopt n)) (labelledWork w n (parentIn m new n) (rowIn reaches n)) new marks′ reaches begins
   adopt-grown {new} e G =
       let mv : Move = adopt n in
       let g = told-of mv R in
@@ -199,4 +202,4 @@ module _ {m : List ℕ} {longest : ℕ} {w : Work} {nb marks reaches : List ℕ}
       label-grown mv R n (g .0) (union (setIn m nb n) (setIn m nb cover)) new e (R .to-make) (λ i c. c) G (union (B .tracked n) (B .tracked (B .cover n))) refl
       (λ x h. in-left (B .tracked n) (B .tracked (B .cover n)) x h)
       (union-small (variableCount m) (B .tracked n) (B .tracked (B .cover n)) (K .small n (g .0)) (K .small (B .cover n) over))
-      (ap (heldIn m (w .nodes)) e ∙ adopt-made m (w .nodes) nb (R .held .long) n (g .0) held (union-field (setIn m nb n) (setIn m nb cover) (small n (g .0)) (small cover held)))
+      (ap (heldIn m (w .nodes)) e ∙ adopt-made m (w .nodes) nb (R .held .long) n (g .0) held (union-field (setIn m nb n) (setIn m nb cover) (small n (g .0)) (small cover held))) (adopt-counts (modelOf m) B (R .counts) n)

@@ -1,6 +1,7 @@
-// Document 02, 2.5: a move made in the records, with the marks, hints and reaches that go with it.
+// Document 02, 2.5 and 2.6: a move made in the records, with the marks, hints, reaches and counts that go with it.
 use expressions::MOST_EXPRESSIONS;
 use graph::COVERED;
+use graph::LEAST_BYTES;
 use graph::MOST_NODES;
 use graph::TARGET;
 use graph::WAITING;
@@ -11,7 +12,7 @@ use work::Work;
 ghost use mathlib.Core.Path.{_≡_};
 ghost use mathlib.Core.Bool.{true};
 ghost use mathlib.Core.Option.{some};
-ghost use Prim.Native.Nat.{_+_, _<_, _≤_, max};
+ghost use Prim.Native.Nat.{_+_, _-_, _<_, _≤_, max};
 ghost use lib.ListN.{length, set};
 ghost use Rattle.folder.specs.Fields.{fieldLimit};
 ghost use Rattle.model.specs.Limits.{mostVariables};
@@ -97,12 +98,14 @@ fn grow_label(m: &[u8], nb: &[u8], marks: &mut [u8], reaches: &[u16], w: Work, n
         low,
         high: work::larger(w.high, high),
         next: w.next,
+        waiting: w.waiting,
     }
 }
 
 // Node n's cover is dropped, and it waits again.
 fn make_drop(vars: usize, nb: &mut [u8], marks: &mut [u8], w: Work, n: usize) -> Work
     requires { ⌜ Counted vars w (now nb) (now marks) n ⌝ }
+    requires { ⌜ w .waiting ≤ w .nodes ⌝ }
     ensures { λ r. ⌜ r ≡ droppedWork w n ⌝ }
     ensures { λ _. ⌜ now (nb .exit) ≡ becomeIn vars (now (nb .entry)) n 0 0 ⌝ }
     ensures { λ _. ⌜ now (marks .exit) ≡ set (now (marks .entry)) n 0 ⌝ }
@@ -116,6 +119,7 @@ fn make_drop(vars: usize, nb: &mut [u8], marks: &mut [u8], w: Work, n: usize) ->
         low: n,
         high: work::larger(w.high, n),
         next: work::smaller(w.next, n),
+        waiting: w.waiting + 1,
     }
 }
 
@@ -130,8 +134,8 @@ fn make_cover(
     c: usize,
 ) -> Work
     requires { ⌜ Counted vars w (now nb) (now marks) n ⌝ }
-    requires { ⌜ (0 < vars) × (c < w .nodes) × (mostNodes ≤ length (now reaches)) ⌝ }
-    ensures { λ r. ⌜ r ≡ grownWork (w .nodes) (w .len) mostNodes n ⌝ }
+    requires { ⌜ (0 < vars) × (c < w .nodes) × (mostNodes ≤ length (now reaches)) × (1 ≤ w .waiting) ⌝ }
+    ensures { λ r. ⌜ r ≡ grownWork (w .nodes) (w .len) mostNodes (w .waiting - 1) n ⌝ }
     ensures { λ _. ⌜ now (nb .exit) ≡ putIn vars (becomeIn vars (now (nb .entry)) n 2 c) n (stateField + vars) c ⌝ }
     ensures { λ _. ⌜ now (marks .exit) ≡ set (now (marks .entry)) n 1 ⌝ }
     ensures { λ _. ⌜ now (reaches .exit) ≡ set (now (reaches .entry)) c (max (rowIn (now (reaches .entry)) c) (n + 1)) ⌝ }
@@ -140,19 +144,20 @@ fn make_cover(
     nodes::put_field(vars, nb, n, STATE + vars, c);
     marks[n] = 1;
     reaches[c] = work::larger(wide(reaches[c]), n + 1) as u16;
-    work::grown_work(w.nodes, w.len, MOST_NODES, n)
+    work::grown_work(w.nodes, w.len, MOST_NODES, w.waiting - 1, n)
 }
 
 // Node n becomes a target.
 fn make_target(vars: usize, nb: &mut [u8], marks: &mut [u8], w: Work, n: usize) -> Work
     requires { ⌜ Counted vars w (now nb) (now marks) n ⌝ }
-    ensures { λ r. ⌜ r ≡ grownWork (w .nodes) (w .len) n n ⌝ }
+    requires { ⌜ 1 ≤ w .waiting ⌝ }
+    ensures { λ r. ⌜ r ≡ grownWork (w .nodes) (w .len) n (w .waiting - 1) n ⌝ }
     ensures { λ _. ⌜ now (nb .exit) ≡ becomeIn vars (now (nb .entry)) n 3 0 ⌝ }
     ensures { λ _. ⌜ now (marks .exit) ≡ set (now (marks .entry)) n 1 ⌝ }
 {
     nodes::become_kind(vars, nb, n, TARGET, 0);
     marks[n] = 1;
-    work::grown_work(w.nodes, w.len, n, n)
+    work::grown_work(w.nodes, w.len, n, w.waiting - 1, n)
 }
 
 // Node n is expanded.
@@ -161,12 +166,13 @@ fn make_expanded(
     nb: &mut [u8],
     marks: &mut [u8],
     reaches: &[u16],
+    begins: &mut [u32],
     longest: usize,
     w: Work,
     n: usize,
 ) -> Work
-    requires { ⌜ Ready (now m) longest w (now nb) (now marks) (now reaches) (some (expand n)) ⌝ }
-    ensures { λ r. ⌜ Made (now (m .entry)) longest w (now (nb .entry)) (some (expand n)) r (now (nb .exit)) (now (marks .exit)) (now (reaches .entry)) ⌝ }
+    requires { ⌜ Ready (now m) longest w (now nb) (now marks) (now reaches) (now begins) (some (expand n)) ⌝ }
+    ensures { λ r. ⌜ Made (now (m .entry)) longest w (now (nb .entry)) (some (expand n)) r (now (nb .exit)) (now (marks .exit)) (now (reaches .entry)) (now (begins .exit)) ⌝ }
 {
     let vars = graph::variable_count(m);
     let mut state = [0i64; MOST_EXPRESSIONS];
@@ -186,8 +192,12 @@ fn make_expanded(
     );
     nodes::become_parent(vars, nb, n, w.nodes);
     marks[n] = 1;
-    let len = w.len + (graph::node_size(vars) * cost.births + cost.bytes);
-    work::grown_work(w.nodes + cost.births, len, n, n)
+    let size = graph::node_size(vars);
+    let nodes = w.nodes + cost.births;
+    let len = w.len + (size * cost.births + cost.bytes);
+    let end = len - (LEAST_BYTES + size * nodes);
+    begins::expand(begins, n, w.nodes, cost.births, cost.bytes, end);
+    work::grown_work(nodes, len, n, w.waiting - 1 + cost.births, n)
 }
 
 // The move is made.
@@ -196,13 +206,14 @@ pub fn make(
     nb: &mut [u8],
     marks: &mut [u8],
     reaches: &mut [u16],
+    begins: &mut [u32],
     longest: usize,
     w: Work,
     mv: Move,
 ) -> Work
-    requires { ⌜ Ready (now m) longest w (now nb) (now marks) (now reaches) (told mv) ⌝ }
+    requires { ⌜ Ready (now m) longest w (now nb) (now marks) (now reaches) (now begins) (told mv) ⌝ }
     requires { ⌜ there (told mv) ≡ true ⌝ }
-    ensures { λ r. ⌜ Made (now (m .entry)) longest w (now (nb .entry)) (told mv) r (now (nb .exit)) (now (marks .exit)) (now (reaches .exit)) ⌝ }
+    ensures { λ r. ⌜ Made (now (m .entry)) longest w (now (nb .entry)) (told mv) r (now (nb .exit)) (now (marks .exit)) (now (reaches .exit)) (now (begins .exit)) ⌝ }
 {
     let vars = graph::variable_count(m);
     match mv {
@@ -217,7 +228,7 @@ pub fn make(
         Move::Drop(n) => make_drop(vars, nb, marks, w, n),
         Move::Cover(n, c) => make_cover(vars, nb, marks, reaches, w, n, c),
         Move::Reach(n) => make_target(vars, nb, marks, w, n),
-        Move::Expand(n) => make_expanded(m, nb, marks, reaches, longest, w, n),
+        Move::Expand(n) => make_expanded(m, nb, marks, reaches, begins, longest, w, n),
         Move::Nothing => w,
     }
 }

@@ -27,11 +27,13 @@ use Rattle.building.specs.Length.{graphLength}
 use Rattle.building.specs.Moves.{seed, repairAs, repair}
 use Rattle.building.specs.Kept.{Kept}
 use Rattle.building.specs.Built.{Reached}
+use Rattle.building.specs.Counts.{Counts}
 use Rattle.building.specs.Working.{ReadRight, ParentRight, Settled, HintRight, ReachRight, MarkRight, NextRight}
 use Rattle.building.proofs.FirstLaws.{put-at, put-other}
 use Rattle.building.proofs.Keeping.{isWaiting, kept-seed}
 use Rattle.building.proofs.Ending.{reached-start}
 use Rattle.building.proofs.Short.{seed-length}
+use Rattle.building.proofs.Counting.{seed-counts}
 use Rattle.put.specs.Put.{Stays}
 use Rattle.held.specs.Held.{kindField, coverField, childField, parentField, trackedField, stateField, hintField, nodeIn, stateIn, setIn, heldIn}
 use Rattle.held.proofs.Made.{counted, counted-in, counted-past}
@@ -45,6 +47,11 @@ use Rattle.work.proofs.RootLaws.{root-value, root-blank}
 pub record Blank (row : List ℕ) : Type 0 where
   pub long : mostNodes ≤ length row
   pub zero : (i : ℕ) → getD row i 0 ≡ 0
+
+-- A row whose first node's edges would begin at the start.
+pub record Begins (row : List ℕ) : Type 0 where
+  pub long : mostNodes ≤ length row
+  pub zero : getD row 0 0 ≡ 0
 
 module _ (m : List ℕ) (valid : Valid m) (old new : List ℕ) (begun : Begun (variableCount m) (body m 1) (stateField + variableCount m + 1) old new) where
   abbrev M : Model
@@ -113,11 +120,11 @@ module _ (m : List ℕ) (valid : Valid m) (old new : List ℕ) (begun : Begun (v
   waits-not : {κ : Kind} → isWaiting κ ≡ false → (n : ℕ) → B .kind n ≡ κ → ⊥
   waits-not h n k = false≢true (sym h ∙ ap isWaiting (sym k ∙ kind-is n))
 
-  module _ (longest : ℕ) (room : leastBytes + nodeSize vars ≤ longest) (lent : longest ≤ leastBytes + length old) (limit : longest ≤ mostBytes) {marks reaches : List ℕ} (none-marked : Blank marks) (none-reached : Blank reaches) where
+  module _ (longest : ℕ) (room : leastBytes + nodeSize vars ≤ longest) (lent : longest ≤ leastBytes + length old) (limit : longest ≤ mostBytes) {marks reaches begins : List ℕ} (none-marked : Blank marks) (none-reached : Blank reaches) (none-begun : Begins begins) where
     kept : Kept M mostNodes B
     kept = subst (λ (C : Building). Kept M mostNodes C) (sym alone) (kept-seed M (limitOf longest) (valid .model) (omega arith))
 
-    module _ (w : Work) (one-node : w .nodes ≡ 1) (len : w .len ≡ leastBytes + nodeSize vars) (fresh : w .fresh ≡ mostNodes) (low : w .low ≡ 0) (high : w .high ≡ 0) (next : w .next ≡ 0) where
+    module _ (w : Work) (one-node : w .nodes ≡ 1) (len : w .len ≡ leastBytes + nodeSize vars) (fresh : w .fresh ≡ mostNodes) (low : w .low ≡ 0) (high : w .high ≡ 0) (next : w .next ≡ 0) (waiting : w .waiting ≡ 1) where
       abbrev C : Building
       C = graphIn m w new
 
@@ -127,7 +134,7 @@ module _ (m : List ℕ) (valid : Valid m) (old new : List ℕ) (begun : Begun (v
       shut : {κ : Kind} → isWaiting κ ≡ false → (n : ℕ) → C .kind n ≡ κ → ⊥
       shut h n k = waits-not h n (ap (λ (G : Building). G .kind n) (sym same) ∙ k)
 
-      pub working : Working m longest w new marks reaches
+      pub working : Working m longest w new marks reaches begins
       working = record {
         held = record {
           model = valid;
@@ -156,9 +163,10 @@ module _ (m : List ℕ) (valid : Valid m) (old new : List ℕ) (begun : Begun (v
             above = λ i l. none-marked .zero i;
           };
           next = record { is = λ i l x. absurd (omega arith) };
+          counts = subst (λ (G : Building). Counts M G (w .waiting) (rowIn begins)) (sym (same ∙ alone)) (rw waiting (seed-counts M {begin = rowIn begins} (none-begun .zero)));
           window = (omega arith, omega arith, omega arith);
           fresh = omega arith;
           bounds = (λ i l. let z : i ≡ 0 = omega arith in omega (arith, ap (λ (n : ℕ). parentIn m new n) z ∙ low-blank parentField (omega arith)), λ x. omega (arith, none-reached .zero x));
-          rows = (none-marked .long, none-reached .long);
+          rows = (none-marked .long, none-reached .long, none-begun .long);
         };
       }

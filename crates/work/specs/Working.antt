@@ -1,4 +1,4 @@
--- Document 02, 2.5: what the builder's loop holds.
+-- Document 02, 2.5 and 2.6: what the builder's loop holds.
 -- Assumes nothing.
 use Prim.Native.Nat.{ℕ, _+_, _*_, _<_, _≤_, min, max}
 use mathlib.Core.Path.{_≡_}
@@ -16,6 +16,7 @@ use Rattle.building.specs.Length.{graphLength}
 use Rattle.building.specs.Moves.{Limit, Move, track, adopt, drop, coverBy, reach, expand, nextMove, moved}
 use Rattle.building.specs.Kept.{Mended}
 use Rattle.building.specs.Built.{Reached}
+use Rattle.building.specs.Counts.{Walked, Counts}
 use Rattle.building.specs.Working.{ReadRight, ParentRight, Settled, HintRight, ReachRight, MarkRight, NextRight}
 use Rattle.put.specs.Put.{Stays}
 use Rattle.held.specs.Held.{heldIn}
@@ -38,7 +39,7 @@ pub record Lent (m : List ℕ) (longest : ℕ) (w : Work) (nb : List ℕ) : Type
   pub limit : longest ≤ mostBytes
 
 -- What is known besides the graph.
-pub record Known (m : List ℕ) (w : Work) (nb marks reaches : List ℕ) : Type 0 where
+pub record Known (m : List ℕ) (w : Work) (nb marks reaches begins : List ℕ) : Type 0 where
   pub read : ReadRight (modelOf m) (graphIn m w nb) (readIn m nb)
   pub parents : ParentRight (modelOf m) (graphIn m w nb) (parentIn m nb)
   pub settled : Settled (modelOf m) (graphIn m w nb) (w .fresh)
@@ -46,16 +47,17 @@ pub record Known (m : List ℕ) (w : Work) (nb marks reaches : List ℕ) : Type 
   pub covering : ReachRight (modelOf m) (graphIn m w nb) (rowIn reaches)
   pub marked : MarkRight (modelOf m) (graphIn m w nb) (rowIn marks) (w .low) (w .high)
   pub next : NextRight (modelOf m) (graphIn m w nb) (w .next)
+  pub counts : Counts (modelOf m) (graphIn m w nb) (w .waiting) (rowIn begins)
   pub window : (w .low ≤ w .high) × (w .high ≤ w .nodes) × (w .next ≤ w .nodes)
   pub fresh : w .fresh ≤ mostNodes
   pub bounds : ((i : ℕ) → i < w .nodes → parentIn m nb i < w .nodes) × ((x : ℕ) → rowIn reaches x ≤ w .nodes)
-  pub rows : (mostNodes ≤ length marks) × (mostNodes ≤ length reaches)
+  pub rows : (mostNodes ≤ length marks) × (mostNodes ≤ length reaches) × (mostNodes ≤ length begins)
 
-pub record Working (m : List ℕ) (longest : ℕ) (w : Work) (nb marks reaches : List ℕ) : Type 0 where
+pub record Working (m : List ℕ) (longest : ℕ) (w : Work) (nb marks reaches begins : List ℕ) : Type 0 where
   pub held : Held m (w .nodes) nb
   pub reached : Reached (modelOf m) (limitOf longest) (graphIn m w nb)
   pub lent : Lent m longest w nb
-  pub known : Known m w nb marks reaches
+  pub known : Known m w nb marks reaches begins
 
 -- ---- what looking for the next move leaves
 
@@ -91,7 +93,7 @@ ToMake m w nb marks (some (expand n)) = ToGrow m w nb marks n
 -- ---- a move made
 
 -- The move `mv` is the next one, and can be made.
-pub record Ready (m : List ℕ) (longest : ℕ) (w : Work) (nb marks reaches : List ℕ) (mv : Option Move) : Type 0 where
+pub record Ready (m : List ℕ) (longest : ℕ) (w : Work) (nb marks reaches begins : List ℕ) (mv : Option Move) : Type 0 where
   pub held : Held m (w .nodes) nb
   pub reached : Reached (modelOf m) (limitOf longest) (graphIn m w nb)
   pub lent : Lent m longest w nb
@@ -101,27 +103,28 @@ pub record Ready (m : List ℕ) (longest : ℕ) (w : Work) (nb marks reaches : L
   pub settled : Settled (modelOf m) (graphIn m w nb) (w .fresh)
   pub covering : ReachRight (modelOf m) (graphIn m w nb) (rowIn reaches)
   pub waits : NextRight (modelOf m) (graphIn m w nb) (w .next)
+  pub counts : Counts (modelOf m) (graphIn m w nb) (w .waiting) (rowIn begins)
   pub window : (w .high ≤ w .nodes) × (w .next ≤ w .nodes) × (w .fresh ≤ mostNodes)
   pub bounds : ((i : ℕ) → i < w .nodes → parentIn m nb i < w .nodes) × ((x : ℕ) → rowIn reaches x ≤ w .nodes)
-  pub rows : (mostNodes ≤ length marks) × (mostNodes ≤ length reaches)
+  pub rows : (mostNodes ≤ length marks) × (mostNodes ≤ length reaches) × (mostNodes ≤ length begins)
   pub to-make : ToMake m w nb marks mv
 
 -- It is made.
-pub record Made (m : List ℕ) (longest : ℕ) (w : Work) (nb : List ℕ) (mv : Option Move) (w′ : Work) (nb′ marks′ reaches′ : List ℕ) : Type 0 where
+pub record Made (m : List ℕ) (longest : ℕ) (w : Work) (nb : List ℕ) (mv : Option Move) (w′ : Work) (nb′ marks′ reaches′ begins′ : List ℕ) : Type 0 where
   pub is : graphIn m w′ nb′ ≡ moved (modelOf m) mv (graphIn m w nb)
-  pub working : Working m longest w′ nb′ marks′ reaches′
+  pub working : Working m longest w′ nb′ marks′ reaches′ begins′
   pub grows : w .nodes ≤ w′ .nodes
   pub stays : Stays 0 (nodeSize (variableCount m) * w′ .nodes) nb nb′
 
 -- ---- the numbers after a move
 
 -- Node n, which waited, has been covered or opened: it alone is marked. `fresh` is the node opened last, if one was.
-abbrev pub grownWork : (nodes len fresh n : ℕ) → Work
-grownWork nodes len fresh n = record { nodes = nodes; len = len; fresh = fresh; low = n; high = n + 1; next = n }
+abbrev pub grownWork : (nodes len fresh waiting n : ℕ) → Work
+grownWork nodes len fresh waiting n = record { nodes = nodes; len = len; fresh = fresh; low = n; high = n + 1; next = n; waiting = waiting }
 
 -- Node n waits again, and is marked no longer.
 abbrev pub droppedWork : Work → ℕ → Work
-droppedWork w n = record { nodes = w .nodes; len = w .len; fresh = w .fresh; low = n; high = max (w .high) n; next = min (w .next) n }
+droppedWork w n = record { nodes = w .nodes; len = w .len; fresh = w .fresh; low = n; high = max (w .high) n; next = min (w .next) n; waiting = w .waiting + 1 }
 
 -- Node n's label has grown: it is marked, and so are its parent and what it covers, which is below `end`.
 abbrev pub labelledWork : Work → (n parent end : ℕ) → Work
@@ -132,12 +135,14 @@ labelledWork w n parent end = record {
   low = pick (eqb end 0) (min n parent) 0;
   high = max (w .high) (max (max n parent + 1) end);
   next = w .next;
+  waiting = w .waiting;
 }
 
 -- What a graph that is built comes to, in the bytes that are lent.
-pub record Grown (m : List ℕ) (longest nodes len : ℕ) (nb : List ℕ) : Type 0 where
+pub record Grown (m : List ℕ) (longest nodes len : ℕ) (nb begins : List ℕ) : Type 0 where
   pub held : Held m nodes nb
   pub counted : len ≡ graphLength (modelOf m) (heldIn m nodes nb)
+  pub walked : Walked (modelOf m) (heldIn m nodes nb) (rowIn begins)
   pub short : len ≤ longest
   pub lent : longest ≤ leastBytes + length nb
   pub limit : longest ≤ mostBytes

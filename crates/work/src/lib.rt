@@ -11,7 +11,7 @@ ghost use Rattle.work.specs.Working.{grownWork};
 ghost use Rattle.work.specs.Root.{rootField, Begun};
 
 // Of a graph while it is built: how many nodes it has and how many bytes; which node was opened last, past all nodes if its
-// label is taken into account; from where to where nodes may be marked; and below which none waits.
+// label is taken into account; from where to where nodes may be marked; below which none waits; and how many wait.
 pub struct Work {
     pub nodes: usize,
     pub len: usize,
@@ -19,6 +19,7 @@ pub struct Work {
     pub low: usize,
     pub high: usize,
     pub next: usize,
+    pub waiting: usize,
 }
 
 pub fn smaller(a: usize, b: usize) -> usize
@@ -34,9 +35,9 @@ pub fn larger(a: usize, b: usize) -> usize
 }
 
 // Node n, which waited, has been covered or opened: it alone is marked. `fresh` is the node opened last, if one was.
-pub fn grown_work(nodes: usize, len: usize, fresh: usize, n: usize) -> Work
+pub fn grown_work(nodes: usize, len: usize, fresh: usize, waiting: usize, n: usize) -> Work
     requires { ⌜ n < nodes ⌝ }
-    ensures { λ r. ⌜ r ≡ grownWork nodes len fresh n ⌝ }
+    ensures { λ r. ⌜ r ≡ grownWork nodes len fresh waiting n ⌝ }
 {
     Work {
         nodes,
@@ -45,6 +46,7 @@ pub fn grown_work(nodes: usize, len: usize, fresh: usize, n: usize) -> Work
         low: n,
         high: n + 1,
         next: n,
+        waiting,
     }
 }
 

@@ -15,7 +15,7 @@ settle-hints-requires : tie.Need-settle-hints-requires
 settle-hints-requires c κs = settle-asked (reread-by (c .before .before .before .before .before .before .before .before .marks-of .ensures .0) (c .before .before .before .before .before .before .before .first-repair .ensures .1 .0)) (c .before .before .before .before .before .before .before .before .before .before .before .before .before .before .before .pre .0 .held) (c .before .before .before .before .before .before .before .before .before .before .before .before .before .before .before .pre .1 .1 .1 .1 .0)
 
 growth-of-requires : tie.Need-growth-of-requires
-growth-of-requires c κs = grow-asked (reread-by (c .before .before .before .before .before .before .before .before .before .before .before .before .marks-of .ensures .0) (c .before .before .before .before .before .before .before .before .before .before .before .first-repair .ensures .1 .0)) (c .before .before .before .settle-hints .ensures) (c .before .before .before .before .before .before .before .before .before .before .before .before .before .before .before .before .before .before .before .pre .0 .held) (c .before .before .before .before .before .before .before .before .before .before .before .before .before .before .before .before .before .before .before .pre .1 .0) (c .before .before .before .before .before .before .before .before .before .before .before .before .before .before .before .before .before .before .before .pre .1 .1 .1 .1 .1 .1 .0) (c .before .before .before .before .before .before .before .before .before .before .before .before .before .before .before .before .before .before .before .pre .1 .1 .1 .1 .1 .1 .1 .2)
+growth-of-requires c κs = grow-asked (reread-by (c .before .before .before .before .before .before .before .before .before .before .before .before .marks-of .ensures .0) (c .before .before .before .before .before .before .before .before .before .before .before .first-repair .ensures .1 .0)) (c .before .before .before .settle-hints .ensures) (c .before .before .before .before .before .before .before .before .before .before .before .before .before .before .before .before .before .before .before .pre .0 .held) (c .before .before .before .before .before .before .before .before .before .before .before .before .before .before .before .before .before .before .before .pre .1 .0) (c .before .before .before .before .before .before .before .before .before .before .before .before .before .before .before .before .before .before .before .pre .1 .1 .1 .1 .1 .1 .0) (c .before .before .before .before .before .before .before .before .before .before .before .before .before .before .before .before .before .before .before .pre .1 .1 .1 .1 .1 .1 .1 .2) (c .before .before .before .before .before .before .before .before .before .before .before .before .before .before .before .before .before .before .before .pre .1 .1 .1 .1 .1 .1 .1 .4)
 
 returns-2 : tie.Need-returns-2
 returns-2 c = grown-next (found-by (c .before .before .before .before .before .before .before .before .before .before .before .before .before .marks-of .ensures) (c .before .before .before .before .before .before .before .before .before .before .before .before .first-repair .ensures)) (c .before .before .before .before .before .before .before .is-move .ensures) (c .before .before .before .before .before .before .if1 .left) (c .before .before .before .before .settle-hints .ensures) _ (c .growth-of .ensures) (c .before .before .before .before .before .before .before .before .before .before .before .before .before .before .before .before .before .before .before .before .pre .1 .1 .1 .1 .1 .1 .0)
