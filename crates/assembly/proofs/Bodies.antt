@@ -1,7 +1,7 @@
 -- The two bodies, in the slice past the contents, after the moves and the edges.
 -- Assumes nothing.
 use Prim.Native.Nat.{ℕ, _+_, _*_, _≤_}
-use mathlib.Core.Path.{_≡_, sym, ap, _∙_}
+use mathlib.Core.Path.{_≡_, sym, ap, _∙_, subst}
 use mathlib.Core.List.{List, _++_}
 use native.Mathlib.Omega.{arith}
 use lib.ListN.{length, drop, length-drop}
@@ -13,9 +13,11 @@ use Rattle.graph.specs.Simulation.{nodeSize}
 use Rattle.graph.specs.Figures.{over}
 use Rattle.building.specs.Building.{Building}
 use Rattle.building.specs.Length.{edgesBefore, graphLength}
+use Rattle.building.specs.Counts.{Walked}
 use Rattle.building.specs.Built.{built}
 use Rattle.put.specs.Put.{Stays}
 use Rattle.held.specs.Held.{heldIn}
+use Rattle.wants.specs.Standing.{rowIn}
 use Rattle.work.specs.Working.{limitOf, Grown}
 use Rattle.finish.specs.Finish.{bodiesOf}
 use Rattle.assembly.specs.Stages.{bodiesBy, Bodied}
@@ -31,7 +33,7 @@ stays-later {old = old} {new = new} s k l =
 abbrev pub graphBy : List ℕ → ℕ → Building
 graphBy m longest = built (modelOf m) (limitOf longest)
 
-module _ (m : List ℕ) (longest : ℕ) {nodes len : ℕ} {mid : List ℕ} (held : heldIn m nodes mid ≡ graphBy m longest) (G : Grown m longest nodes len mid) where
+module _ (m : List ℕ) (longest : ℕ) {nodes len : ℕ} {mid begins : List ℕ} (held : heldIn m nodes mid ≡ graphBy m longest) (G : Grown m longest nodes len mid begins) where
   -- The edges have room.
   pub edges-fit : nodeSize (variableCount m) * nodes + edgesBefore (modelOf m) (heldIn m nodes mid) nodes ≤ length mid
   unfolding graphLength
@@ -41,12 +43,13 @@ module _ (m : List ℕ) (longest : ℕ) {nodes len : ℕ} {mid : List ℕ} (held
   count-is = ap (λ (b : Building). b .nodes) held
 
   -- What the edges are written over stays.
-  pub bodied : {old new : List ℕ} → Stays 0 (nodeSize (variableCount m) * nodes) old mid → new ≡ over (bodiesOf (modelOf m) (heldIn m nodes mid)) mid → Bodied m longest nodes len old new
+  pub bodied : {old new : List ℕ} → Stays 0 (nodeSize (variableCount m) * nodes) old mid → new ≡ over (bodiesOf (modelOf m) (heldIn m nodes mid)) mid → Bodied m longest nodes len old new begins
   unfolding bodiesOf bodiesBy
   bodied s e = record {
     count = count-is;
     long = G .counted ∙ ap (graphLength (modelOf m)) held;
     short = G .short;
+    walked = subst (λ (b : Building). Walked (modelOf m) b (rowIn begins)) held (G .walked);
     are = e ∙ ap (λ (b : Building). over (bodiesOf (modelOf m) b) mid) held
         ∙ ap (λ (l : List ℕ). bodiesBy (modelOf m) (graphBy m longest) (λ _. units) ++ l)
         (stays-later s (length (bodiesBy (modelOf m) (graphBy m longest) (λ _. units))) (rw (bodies-long (modelOf m) (graphBy m longest) (λ _. units), count-is) (omega arith)));

@@ -1,25 +1,19 @@
 -- The bytes of a graph that is built: the contents, and two bodies whose lengths do not hang on the values.
 -- Assumes nothing.
-use Prim.Native.Nat.{ℕ, zero, suc, _+_, _*_, _<_}
-use mathlib.Core.Path.{_≡_, refl, ap, _∙_}
+use Prim.Native.Nat.{ℕ, _+_, _*_, _<_}
+use mathlib.Core.Path.{_≡_, ap, _∙_}
 use mathlib.Core.List.{List, _++_, append-nil}
-use native.Mathlib.Nat.{le-refl, le-step}
 use lib.ListN.{length, length-append}
 use Rattle.model.specs.Model.{Model}
 use Rattle.model.specs.Pedal.{fields}
 use Rattle.graph.specs.Simulation.{nodeSize}
 use Rattle.building.specs.Building.{Building, asSimulation}
 use Rattle.building.specs.Length.{edgesBefore}
-use Rattle.written.specs.Bytes.{chain, nodeFields, nodeBody, edgeBody, graphBytes}
+use Rattle.written.specs.Bytes.{nodeFields, nodeBody, edgeBody, graphBytes}
+use Rattle.written.proofs.FieldLaws.{chain-same}
 use Rattle.written.proofs.LengthLaws.{edges-long}
 use Rattle.written.proofs.ReadBack.{bytes-long}
 use Rattle.assembly.specs.Stages.{contentsBy, bodiesBy}
-
--- Lists one after the other, each equal to another's.
-pub chain-same : (n : ℕ) (f g : ℕ → List ℕ) → ((i : ℕ) → i < n → f i ≡ g i) → chain n f ≡ chain n g
-unfolding chain
-chain-same zero f g h = refl
-chain-same (suc n) f g h = λ i. chain-same n f g (λ k l. h k (le-step l)) i ++ h n (le-refl (suc n)) i
 
 module _ (M : Model) (B : Building) where
   abbrev pub nodesLong : ℕ

@@ -1,7 +1,7 @@
 -- The contents and the bodies are the graph's bytes.
 -- Assumes nothing.
 use Prim.Native.Nat.{ℕ, _+_, _-_, _*_, _≤_, min}
-use mathlib.Core.Path.{_≡_, refl, sym, ap, _∙_}
+use mathlib.Core.Path.{_≡_, refl, sym, ap, _∙_, subst}
 use mathlib.Core.List.{List, _++_, append-assoc}
 use native.Mathlib.Nat.{min-le-left}
 use native.Mathlib.Omega.{arith}
@@ -16,10 +16,12 @@ use Rattle.graph.specs.Simulation.{nodeSize}
 use Rattle.graph.specs.Figures.{over}
 use Rattle.building.specs.Building.{Building, asSimulation}
 use Rattle.building.specs.Length.{graphLength}
+use Rattle.building.specs.Counts.{Walked}
 use Rattle.building.specs.Values.{roundsOf}
 use Rattle.building.specs.Built.{built, valuesOf}
 use Rattle.written.specs.Bytes.{graphBytes}
 use Rattle.written.proofs.Accepted.{built-length}
+use Rattle.wants.specs.Standing.{rowIn}
 use Rattle.assembly.specs.Stages.{contentsBy, bodiesBy, Bodied}
 use Rattle.assembly.specs.Build.{oneNode, limitFor, bytesFor}
 use Rattle.assembly.proofs.BytesLaws.{nodesLong, edgesLong, bytes-are}
@@ -52,7 +54,7 @@ module _ (m : List ℕ) (W : Valid m) (out : List ℕ) (room : oneNode (modelOf 
   pub same-graph : graphBy m longest ≡ built (modelOf m) (limitFor out)
   same-graph = rw e refl
 
-  module _ {nodes len size : ℕ} {new : List ℕ} (D : Bodied m longest nodes len (take (length out - leastBytes) (drop leastBytes out)) new) (z : size ≡ nodeSize (variableCount m)) where
+  module _ {nodes len size : ℕ} {new begins : List ℕ} (D : Bodied m longest nodes len (take (length out - leastBytes) (drop leastBytes out)) new begins) (z : size ≡ nodeSize (variableCount m)) where
     -- The nodes' bytes, and how many are left for the edges.
     pub nodes-within : leastBytes + size * nodes ≤ len
     unfolding graphLength
@@ -80,14 +82,17 @@ module _ (m : List ℕ) (W : Valid m) (out : List ℕ) (room : oneNode (modelOf 
         ∙ ap (over (bodiesBy (modelOf m) (graphBy m longest) (λ _. units))) (part-of leastBytes out)
 
     pub certain-is : {last : List ℕ} → last ≡ contentsBy (size * nodes) (len - leastBytes - size * nodes) ++ drop leastBytes (putMid leastBytes (length out - leastBytes) out new)
-        → (nodes ≡ built (modelOf m) (limitFor out) .nodes) × ((len ≡ length (bytesFor (modelOf m) 0 out)) × (last ≡ over (bytesFor (modelOf m) 0 out) out))
+        → (nodes ≡ built (modelOf m) (limitFor out) .nodes) × ((len ≡ length (bytesFor (modelOf m) 0 out)) × ((last ≡ over (bytesFor (modelOf m) 0 out) out) × Walked (modelOf m) (built (modelOf m) (limitFor out)) (rowIn begins)))
     certain-is q = (
       D .count ∙ ap (λ (b : Building). b .nodes) same-graph,
       (
         D .long ∙ ap (graphLength (modelOf m)) same-graph ∙ sym (built-length (modelOf m) (limitFor out) 0),
-        q
-            ∙ (λ i. contentsBy (nodes-are i) (edges-left i) ++ bodies-past i)
-            ∙ ap (λ (b : Building). certainOver (modelOf m) b out) same-graph
-            ∙ sym (certain-over (modelOf m) (built (modelOf m) (limitFor out)) out),
+        (
+          q
+              ∙ (λ i. contentsBy (nodes-are i) (edges-left i) ++ bodies-past i)
+              ∙ ap (λ (b : Building). certainOver (modelOf m) b out) same-graph
+              ∙ sym (certain-over (modelOf m) (built (modelOf m) (limitFor out)) out),
+          subst (λ (b : Building). Walked (modelOf m) b (rowIn begins)) same-graph (D .walked),
+        ),
       ),
     )

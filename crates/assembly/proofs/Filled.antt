@@ -15,16 +15,22 @@ use Rattle.model.specs.Model.{Model, modelOf}
 use Rattle.model.specs.Valid as Models
 use Rattle.graph.specs.Limits.{leastBytes, mostNodes, units}
 use Rattle.graph.specs.Simulation.{nodeSize, nodeCount, simulationOf}
+use Rattle.graph.specs.Walks.{startsAt}
 use Rattle.graph.specs.Figures.{over}
 use Rattle.graph.specs.Valid.{Valid}
 use Rattle.graph.proofs.Decided.{accepted-valid}
 use Rattle.building.specs.Building.{Building, asSimulation}
+use Rattle.building.specs.Counts.{Walked}
 use Rattle.building.specs.Values.{roundsOf}
 use Rattle.building.specs.Built as Rules
 use Rattle.building.specs.Built.{built, builtGraph, valuesOf}
 use Rattle.building.proofs.Built.{built-accepted}
 use Rattle.written.specs.Same.{Same}
-use Rattle.written.proofs.Accepted.{written-same, built-length}
+use Rattle.written.proofs.ReadBack.{Fitting}
+use Rattle.written.proofs.Counted.{edges-walked}
+use Rattle.written.proofs.Accepted.{written-fits, written-same, built-length}
+use Rattle.lowering.specs.Sweeps.{Starts}
+use Rattle.wants.specs.Standing.{rowIn}
 use Rattle.assembly.specs.Stages.{bodiesBy}
 use Rattle.assembly.specs.Build.{oneNode, limitFor, bytesFor}
 use Rattle.assembly.proofs.BytesLaws.{bodies-long, bodies-same}
@@ -46,6 +52,9 @@ module _ (m : List ℕ) (W : Models.Valid m) (out : List ℕ) (room : oneNode (m
 
   R : Rules.Accepted M (limitFor out) (builtGraph M (limitFor out) 0)
   R = built-accepted M (W .model) (limitFor out) (omega arith) 0
+
+  F : Fitting M (builtGraph M (limitFor out) 0)
+  F = written-fits m W (builtGraph M (limitFor out) 0) (R .content) (R .rules) (R .some) (R .few) (le-trans (fitted-within m W out room 0) (room-short m W out room))
 
   S : Same M (builtGraph M (limitFor out) 0) (simulationOf M bytes)
   S = written-same m W (builtGraph M (limitFor out) 0) (R .content) (R .rules) (R .some) (R .few) (le-trans (fitted-within m W out room 0) (room-short m W out room))
@@ -79,6 +88,15 @@ module _ (m : List ℕ) (W : Models.Valid m) (out : List ℕ) (room : oneNode (m
 
     pub front-few : nodeCount M (take len mid) ≤ mostNodes
     front-few = front-valid .rows .folder .few
+
+    -- Where the edges begin, by walking the bytes.
+    pub front-starts : {begins : List ℕ} → mostNodes ≤ length begins → Walked M (builtIn m out) (rowIn begins) → Starts m (take len mid) begins
+    front-starts {begins} long walked = record {
+      long = omega (arith, front-few);
+      is = λ k h.
+          let b : k < builtIn m out .nodes = rw (front, S .nodes) at h in
+          walked k b ∙ sym (edges-walked M (builtIn m out) (valuesOf M (builtIn m out) 0) F k (omega arith)) ∙ ap (λ (g : List ℕ). startsAt M g k) (sym front);
+    }
 
     pub nodes-few : nodes ≤ mostNodes
     nodes-few = rw n (R .few)

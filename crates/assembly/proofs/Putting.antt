@@ -20,10 +20,10 @@ use Rattle.building.proofs.FirstLaws.{put-same, put-other, put-all}
 use Rattle.put.specs.Put.{put2, put4}
 use Rattle.put.proofs.PutLaws.{put-length}
 use Rattle.written.specs.Bytes.{chain, nodeFields, nodeBody, edgeBody}
-use Rattle.written.proofs.FieldLaws.{length-fields, chain-within, high-small}
+use Rattle.written.proofs.FieldLaws.{length-fields, chain-same, chain-within, high-small}
 use Rattle.written.proofs.ReadBack.{bytes-long}
 use Rattle.assembly.specs.Stages.{bodiesBy}
-use Rattle.assembly.proofs.BytesLaws.{chain-same, bodies-long, bodies-same, recordBy}
+use Rattle.assembly.proofs.BytesLaws.{bodies-long, bodies-same, recordBy}
 
 -- ---- two elements, one after the other
 abbrev pub set2 : List ℕ → ℕ → ℕ → ℕ → List ℕ

@@ -19,12 +19,9 @@ ghost use Rattle.graph.specs.Limits.{leastBytes, mostBytes, mostNodes};
 ghost use Rattle.graph.specs.Simulation.{nodeSize};
 ghost use Rattle.graph.specs.Figures.{over};
 ghost use Rattle.building.specs.Building.{Building};
-ghost use Rattle.building.specs.Length.{edgesBefore};
+ghost use Rattle.building.specs.Counts.{Walked};
 ghost use Rattle.building.specs.Built.{built};
-ghost use Rattle.put.specs.Put.{Stays};
-ghost use Rattle.held.specs.Held.{heldIn};
-ghost use Rattle.wants.specs.Standing.{Held};
-ghost use Rattle.work.specs.Working.{limitOf, Grown};
+ghost use Rattle.wants.specs.Standing.{rowIn};
 ghost use Rattle.assembly.specs.Stages.{contentsBy, bodiesBy, Bodied};
 ghost use Rattle.assembly.specs.Build.{oneNode, limitFor, BuildRight, buildRows, bytesFor, answerOf, sliceOf};
 
@@ -81,27 +78,30 @@ fn put_values(vars: usize, nodes: usize, row: &[u32], nb: &mut [u8])
     }
 }
 
-// The two bodies of the graph with all values at S: the moves, then the edges.
-fn build_bodies(m: &[u8], longest: usize, nb: &mut [u8]) -> Size
+// The two bodies of the graph with all values at S: the moves, then the edges. The row gets where each node's edges begin.
+fn build_bodies(m: &[u8], longest: usize, begins: &mut [u32], nb: &mut [u8]) -> Size
     requires { ⌜ Valid (now m) ⌝ }
+    requires { ⌜ mostNodes ≤ length (now begins) ⌝ }
     requires { ⌜ (leastBytes + nodeSize (variableCount (now m)) ≤ longest) × (longest ≤ leastBytes + length (now nb)) × (longest ≤ mostBytes) ⌝ }
-    ensures { λ r. ⌜ Bodied (now (m .entry)) longest (r .nodes) (r .len) (now (nb .entry)) (now (nb .exit)) ⌝ }
+    ensures { λ r. ⌜ Bodied (now (m .entry)) longest (r .nodes) (r .len) (now (nb .entry)) (now (nb .exit)) (now (begins .exit)) ⌝ }
 {
-    let size = builder::build(m, longest, nb);
-    finish::finish(m, size.nodes, nb);
+    let size = builder::build(m, longest, begins, nb);
+    finish::finish(m, size.nodes, begins, nb);
     size
 }
 
 // The graph with all values at S: the contents, then the bodies.
-fn build_certain(m: &[u8], out: &mut [u8]) -> Size
+fn build_certain(m: &[u8], begins: &mut [u32], out: &mut [u8]) -> Size
     requires { ⌜ Valid (now m) ⌝ }
+    requires { ⌜ mostNodes ≤ length (now begins) ⌝ }
     requires { ⌜ oneNode (modelOf (now m)) ≤ length (now out) ⌝ }
     ensures { λ r. ⌜ r .nodes ≡ built (modelOf (now (m .entry))) (limitFor (now (out .entry))) .nodes ⌝ }
     ensures { λ r. ⌜ r .len ≡ length (bytesFor (modelOf (now (m .entry))) 0 (now (out .entry))) ⌝ }
     ensures { λ _. ⌜ now (out .exit) ≡ over (bytesFor (modelOf (now (m .entry))) 0 (now (out .entry))) (now (out .entry)) ⌝ }
+    ensures { λ _. ⌜ Walked (modelOf (now (m .entry))) (built (modelOf (now (m .entry))) (limitFor (now (out .entry)))) (rowIn (now (begins .exit))) ⌝ }
 {
     let longest = work::smaller(out.len(), MOST_BYTES);
-    let size = build_bodies(m, longest, &mut out[LEAST_BYTES..]);
+    let size = build_bodies(m, longest, begins, &mut out[LEAST_BYTES..]);
     let nodes = graph::node_size(graph::variable_count(m)) * size.nodes;
     put_contents(out, nodes, size.len - LEAST_BYTES - nodes);
     size
@@ -114,10 +114,11 @@ pub fn build_fill(m: &[u8], rounds: usize, out: &mut [u8]) -> usize
     ensures { λ r. ⌜ r ≡ length (bytesFor (modelOf (now (m .entry))) rounds (now (out .entry))) ⌝ }
     ensures { λ _. ⌜ now (out .exit) ≡ over (bytesFor (modelOf (now (m .entry))) rounds (now (out .entry))) (now (out .entry)) ⌝ }
 {
-    let size = build_certain(m, out);
+    let mut begins = [0u32; MOST_NODES];
+    let size = build_certain(m, &mut begins, out);
     let len = size.len;
     let mut row = [0u32; MOST_NODES];
-    lowering::lower(m, &out[..len], rounds, &mut row);
+    lowering::lower(m, &out[..len], &begins, rounds, &mut row);
     put_values(
         graph::variable_count(m),
         size.nodes,

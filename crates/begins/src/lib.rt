@@ -8,6 +8,20 @@ ghost use Rattle.folder.specs.Tab.{tab};
 ghost use Rattle.building.specs.Counts.{beginAfter};
 ghost use Rattle.put.specs.Put.{Changed};
 
+fn wide(x: u32) -> usize
+    ensures { λ r. ⌜ r ≡ x ⌝ }
+{
+    x as usize
+}
+
+// Where the edges of node n begin.
+pub fn begin_of(begins: &[u32], n: usize) -> usize
+    requires { ⌜ n < length (now begins) ⌝ }
+    ensures { λ r. ⌜ r ≡ getD (now (begins .entry)) n 0 ⌝ }
+{
+    wide(begins[n])
+}
+
 // Later by so many bytes.
 fn later(begin: u32, bytes: usize) -> u32
     requires { ⌜ begin + bytes < field4Limit ⌝ }

@@ -1,7 +1,7 @@
 -- The loop that makes the moves: it goes on from what the last move left, the measure falls, and it ends at the graph that is
 -- built.
 -- Assumes nothing.
-use Prim.Native.Nat.{ℕ, _+_, _*_, _<_, _≤_}
+use Prim.Native.Nat.{ℕ, _*_, _<_, _≤_}
 use mathlib.Core.Path.{_≡_, refl, sym, ap, _∙_, subst}
 use mathlib.Core.Bool.{true, false, false≢true}
 use mathlib.Core.List.{List}
@@ -21,16 +21,16 @@ use Rattle.building.specs.Kept.{Kept}
 use Rattle.building.specs.Measure.{measure}
 use Rattle.building.specs.Built.{Reached, built}
 use Rattle.building.specs.Counts.{Counts}
-use Rattle.building.specs.Working.{ParentRight, Settled, HintRight, ReachRight, MarkRight, NextRight}
+use Rattle.building.specs.Working.{ParentRight, Settled, ReachRight, NextRight}
 use Rattle.building.proofs.Aptness.{next-apt}
 use Rattle.building.proofs.Falling.{falls}
 use Rattle.building.proofs.Ending.{reached-built}
 use Rattle.put.specs.Put.{Stays}
 use Rattle.put.proofs.PutLaws.{stays-none}
 use Rattle.held.specs.Held.{heldIn}
-use Rattle.wants.specs.Standing.{parentIn, hintIn, rowIn}
+use Rattle.wants.specs.Standing.{parentIn, rowIn}
 use Rattle.work.specs.declared.Work.{Work}
-use Rattle.work.specs.Working.{limitOf, graphIn, Lent, Known, Working, Looked, ToMake, Ready, Made, Grown}
+use Rattle.work.specs.Working.{limitOf, graphIn, Working, Looked, ToMake, Ready, Made, Grown}
 
 -- What the loop holds: a move that can be made, or none, and what of the bytes stays.
 pub record Growing (m : List ℕ) (longest least : ℕ) (nb₀ marks₀ reaches₀ begins₀ : List ℕ) (w : Work) (nb marks reaches begins : List ℕ) (mv : Option Move) : Type 0 where

@@ -6,12 +6,9 @@ use native.Mathlib.Nat.{le-step, le-refl}
 use native.Mathlib.Decide.{decLt, ℕ-discrete}
 use native.Mathlib.Omega.{arith}
 use borrow.Author.Tests.{le-leb, lt-leb, lt-ltb, le-ltb}
-use lib.Dec.{leb, ltb}
 use Rattle.mdp.specs.Sums.{sum}
 use Rattle.mdp.specs.Kinds.{Kind}
 use Rattle.mdp.proofs.SumLaws.{sum-more, sum-few}
-use Rattle.folder.specs.Pick.{pick}
-use Rattle.expressions.specs.Mentions.{union}
 use Rattle.model.specs.Model.{Model}
 use Rattle.building.specs.Building.{Building, births, ifExpanded}
 use Rattle.building.specs.Length.{edgesLength, edgesBefore, ifWaiting, waitingCount}

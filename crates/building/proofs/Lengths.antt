@@ -3,7 +3,6 @@
 use Prim.Native.Nat.{ℕ, zero, suc, _+_, _*_, _<_, _≤_}
 use mathlib.Core.Path.{_≡_, refl, sym, ap, _∙_}
 use mathlib.Core.Logic.{_⊎_, inl, inr}
-use mathlib.Core.Bool.{Bool}
 use mathlib.Core.List.{[]}
 use native.Mathlib.Nat.{eq-or-lt-of-le, le-of-suc-le-suc, not-suc-le-zero, le-step, le-refl}
 use native.Mathlib.Decide.{ℕ-discrete}
@@ -11,7 +10,7 @@ use native.Mathlib.Omega.{arith}
 use lib.ListN.{getD}
 use Rattle.mdp.specs.Sums.{sum}
 use Rattle.mdp.specs.Kinds.{Kind}
-use Rattle.mdp.proofs.SumLaws.{sum-eq}
+use Rattle.mdp.proofs.SumLaws.{sum-eq, sum-more}
 use Rattle.expressions.specs.Meaning.{State}
 use Rattle.model.specs.Model.{Model}
 use Rattle.graph.specs.Simulation.{nodeSize}
@@ -43,6 +42,11 @@ not-expanded Kind.waiting x h = refl
 not-expanded Kind.expanded x h = absurd (omega arith)
 not-expanded Kind.covered x h = refl
 not-expanded Kind.target x h = refl
+
+-- A node's edges end by where all edges end.
+pub edges-within : (M : Model) (B : Building) (i : ℕ) → i < B .nodes → edgesBefore M B i + edgesOf M B i ≤ edgesBefore M B (B .nodes)
+unfolding edgesBefore
+edges-within M B i l = sum-more (B .nodes) (edgesOf M B) i l
 
 module _ (M : Model) (B : Building) (n : ℕ) where
   -- ---- a label grows

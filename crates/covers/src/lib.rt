@@ -11,7 +11,6 @@ ghost use mathlib.Core.Path.{_≡_};
 ghost use mathlib.Core.Bool.{true, false, not};
 ghost use Prim.Native.Nat.{ℕ, _+_, _*_, _<_, _≤_};
 ghost use lib.ListN.{length};
-ghost use Rattle.folder.specs.Pick.{pick, implies};
 ghost use Rattle.folder.specs.Scan.{firstBad};
 ghost use Rattle.folder.specs.Fields.{fieldLimit, signed16};
 ghost use Rattle.folder.specs.Contents.{field};
@@ -19,7 +18,6 @@ ghost use Rattle.whole.specs.Order.{eqZ};
 ghost use Rattle.model.specs.Limits.{mostVariables};
 ghost use Rattle.graph.specs.Simulation.{nodeSize, kindOf};
 ghost use Rattle.building.specs.Building.{isOpen};
-ghost use Rattle.held.specs.Held.{fieldCount, putIn, Whole};
 ghost use Rattle.covers.specs.Covers.{isWaiting, sameAt, agreesIn, canCoverIn, waitsIn, faultIn, hintAt, loweredHint, SomeWaits, LowestWaits, Lowered};
 
 fn is_waiting(k: usize) -> bool

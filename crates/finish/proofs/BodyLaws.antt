@@ -24,11 +24,11 @@ use Rattle.building.specs.Building.{Building, startSet, enabled, before, edgeCo
 use Rattle.put.specs.Put.{unsigned}
 use Rattle.held.specs.Held.{coverField, childField, stateField, fieldCount, nodeIn, stateIn, setIn, heldIn}
 use Rattle.held.proofs.Made.{counted-in}
+use Rattle.written.proofs.FieldLaws.{chain-same}
 use Rattle.written.specs.Bytes.{chain, nodeFields, edgesFields}
 use Rattle.finish.specs.Finish.{certain}
 use Rattle.finish.specs.Laid.{finalValue, finalField, edgesFrom, whenExpanded, kindIn, ownEdges, ownCount, ownRecord}
 use Rattle.finish.proofs.FinalLaws.{value-concrete, value-label}
-use Rattle.finish.proofs.OwnLaws.{chain-same}
 
 -- A field that is read as signed and written back is the same.
 pub unsigned-back : (u : ℕ) → u < fieldLimit → unsigned (signed16 u) ≡ u

@@ -7,7 +7,6 @@ use native.Mathlib.Decide.{decLt}
 use native.Mathlib.Omega.{arith}
 use lib.ListN.{length, getD, drop, length-append, length-drop, List·getD-append}
 use lib.Seq.{getD-append-add, getD-drop, ext-getD}
-use Rattle.mdp.proofs.SumLaws.{sum-more}
 use Rattle.folder.specs.Fields.{fieldLimit, u16}
 use Rattle.folder.specs.Contents.{field}
 use Rattle.folder.specs.Tab.{tab}
@@ -21,10 +20,12 @@ use Rattle.graph.specs.Limits.{units}
 use Rattle.graph.specs.Simulation.{Simulation, nodeSize}
 use Rattle.building.specs.Building.{Building, births, ifExpanded}
 use Rattle.building.specs.Length.{edgesLength, edgesOf, edgesBefore}
+use Rattle.building.specs.Counts.{Walked}
+use Rattle.building.proofs.Lengths.{edges-within}
 use Rattle.put.specs.Put.{unsigned}
 use Rattle.held.specs.Held.{childField, trackedField, fieldCount, nodeIn, stateIn, heldIn, NodeHere}
 use Rattle.held.proofs.FieldLaws.{record-at}
-use Rattle.wants.specs.Standing.{Held}
+use Rattle.wants.specs.Standing.{rowIn, Held}
 use Rattle.written.specs.Bytes.{chain, nodeFields, edgesFields, nodeBody, edgeBody}
 use Rattle.written.proofs.FieldLaws.{chain-wide}
 use Rattle.written.proofs.ReadBack.{bytes-long}
@@ -37,32 +38,29 @@ use Rattle.finish.proofs.EdgeLaws.{chain-more}
 use Rattle.finish.proofs.OwnLaws.{same-state, same-kind, same-edges, same-record}
 use Rattle.finish.proofs.BodyLaws.{kind-held, set-held, state-held, child-held, edges-held, record-held}
 
-pub record Done (m nb₀ : List ℕ) (nodes n at : ℕ) (nb : List ℕ) : Type 0 where
+pub record Done (m nb₀ : List ℕ) (nodes n : ℕ) (nb : List ℕ) : Type 0 where
   pub within : n ≤ nodes
   pub long : length nb ≡ length nb₀
   pub records : Stand 0 (chain n (nodeFields (modelOf m) (certain (modelOf m) (heldIn m nodes nb₀)))) nb
   pub edges : Stand (nodeSize (variableCount m) * nodes) (chain n (edgesFields (modelOf m) (certain (modelOf m) (heldIn m nodes nb₀)))) nb
   pub ahead : (j : ℕ) → nodeSize (variableCount m) * n ≤ j → j < nodeSize (variableCount m) * nodes → getD nb j 0 ≡ getD nb₀ j 0
-  pub past : (j : ℕ) → at ≤ j → getD nb j 0 ≡ getD nb₀ j 0
-  pub ends : at ≡ nodeSize (variableCount m) * nodes + 2 * length (chain n (edgesFields (modelOf m) (certain (modelOf m) (heldIn m nodes nb₀))))
+  pub past : (j : ℕ) → nodeSize (variableCount m) * nodes + 2 * length (chain n (edgesFields (modelOf m) (certain (modelOf m) (heldIn m nodes nb₀)))) ≤ j → getD nb j 0 ≡ getD nb₀ j 0
 
-pub done-start : (m nb : List ℕ) (nodes : ℕ) {vars size : ℕ} → vars ≡ variableCount m → size ≡ nodeSize vars → Done m nb nodes 0 (size * nodes) nb
+pub done-start : (m nb : List ℕ) (nodes : ℕ) → Done m nb nodes 0 nb
 unfolding chain
-done-start m nb nodes p q =
-    let e = q ∙ ap nodeSize p in
-    record {
-      within = omega arith;
-      long = refl;
-      records = stand-none _ nb;
-      edges = stand-none _ nb;
-      ahead = λ j l h. refl;
-      past = λ j l. refl;
-      ends = ap (λ (s : ℕ). s * nodes) e ∙ omega arith;
-    }
+done-start m nb nodes = record { within = omega arith; long = refl; records = stand-none _ nb; edges = stand-none _ nb; ahead = λ j l h. refl; past = λ j l. refl }
 
 -- As the code has it, the end of the records.
 pub records-end : {m nb : List ℕ} {nodes vars size : ℕ} → Held m nodes nb → vars ≡ variableCount m → size ≡ nodeSize vars → size * nodes ≤ length nb
 records-end held p q = rw (q, p) (held .long)
+
+-- As the code has it, where the edges of node n begin: within the slice.
+module _ (m nb begins : List ℕ) (nodes : ℕ) (walked : Walked (modelOf m) (heldIn m nodes nb) (rowIn begins)) {n vars size x : ℕ} (l : n < nodes) (p : vars ≡ variableCount m) (q : size ≡ nodeSize vars) (e : x ≡ rowIn begins n) where
+  pub begins-at : size * nodes + x ≡ nodeSize (variableCount m) * nodes + edgesBefore (modelOf m) (heldIn m nodes nb) n
+  begins-at = rw (q, p) (ap (λ (k : ℕ). nodeSize (variableCount m) * nodes + k) (e ∙ walked n l))
+
+  pub begins-within : nodeSize (variableCount m) * nodes + edgesBefore (modelOf m) (heldIn m nodes nb) nodes ≤ length nb → size * nodes + x ≤ length nb
+  begins-within h = omega (arith, begins-at, edges-within (modelOf m) (heldIn m nodes nb) n l)
 
 -- A record's length, and that of several.
 module _ (m nb₀ : List ℕ) (nodes : ℕ) where
@@ -88,8 +86,8 @@ module _ (m nb₀ : List ℕ) (nodes : ℕ) where
   edges-begin : (n : ℕ) → 2 * length (chain n (edgesFields M G)) ≡ edgesBefore M B n
   edges-begin = edges-place M B (λ n. units)
 
--- At node n.
-module _ {m nb₀ : List ℕ} {nodes : ℕ} (held : Held m nodes nb₀) {n at : ℕ} {nb : List ℕ} (d : Done m nb₀ nodes n at nb) (l : n < nodes) where
+-- At node n, whose edges begin where the row says.
+module _ {m nb₀ : List ℕ} {nodes : ℕ} (held : Held m nodes nb₀) {n at : ℕ} {nb : List ℕ} (d : Done m nb₀ nodes n nb) (l : n < nodes) (begins : at ≡ nodeSize (variableCount m) * nodes + edgesBefore (modelOf m) (heldIn m nodes nb₀) n) where
   abbrev w : ℕ
   w = nodeSize (variableCount m)
 
@@ -107,6 +105,9 @@ module _ {m nb₀ : List ℕ} {nodes : ℕ} (held : Held m nodes nb₀) {n at : 
 
   within : w * n + w ≤ w * nodes
   within = record-at w n nodes l
+
+  starts : at ≡ w * nodes + 2 * length (chain n edges)
+  starts = begins ∙ ap (λ (k : ℕ). w * nodes + k) (sym (edges-begin m nb₀ nodes n))
 
   same : (f : ℕ) → f < fieldCount (variableCount m) → nodeIn m nb n f ≡ nodeIn m nb₀ n f
   unfolding field u16
@@ -128,21 +129,20 @@ module _ {m nb₀ : List ℕ} {nodes : ℕ} (held : Held m nodes nb₀) {n at : 
 
   module _ (room : nodeSize (variableCount m) * nodes + edgesBefore (modelOf m) (heldIn m nodes nb₀) nodes ≤ length nb₀) where
     own-room : at + ifExpanded (kindIn m nb n) (edgesLength model (stateIn m nb n)) ≤ length nb
-    unfolding edgesBefore
     own-room =
         let e : ifExpanded (kindIn m nb n) (edgesLength model (stateIn m nb n)) ≡ edgesOf model built n = λ i. ifExpanded (kind-is i) (edgesLength model (state-is i)) in
-        omega (arith, d .ends, d .long, edges-begin m nb₀ nodes n, sum-more nodes (edgesOf model built) n l)
+        omega (arith, begins, d .long, edges-within model built n l)
 
     pub node-fits : Fits m nb n at
     node-fits = record {
       here = here;
-      past = omega (arith, within, d .ends);
+      past = omega (arith, within, begins);
       room = own-room;
       children = λ k.
           omega (arith, held .kept .parents n l (sym kind-is ∙ k) .there, held .kept .few, same childField (omega arith) ∙ child-held m nb₀ nodes n l, ap (births model) state-is);
     }
 
-  module _ (bytes : (j : ℕ) → getD nb₀ j 0 < 256) {end : ℕ} {new : List ℕ} (e : Ended m nb n at end new) where
+  module _ (bytes : (j : ℕ) → getD nb₀ j 0 < 256) {new : List ℕ} (e : Ended m nb n at new) where
     small : (f : ℕ) → nodeIn m nb₀ n f < fieldLimit
     unfolding field u16
     small f = omega (arith, bytes (w * n + 2 * f), bytes (w * n + 2 * f + 1))
@@ -159,8 +159,8 @@ module _ {m nb₀ : List ℕ} {nodes : ℕ} (held : Held m nodes nb₀) {n at : 
     record-laid : Laid (w * n) (records n) (e .between) new
     record-laid = subst (λ (us : List ℕ). Laid (w * n) us (e .between) new) own-record (e .final)
 
-    ends : end ≡ at + 2 * length (edges n)
-    ends = e .ends ∙ ap (λ (us : List ℕ). at + 2 * length us) own-edges
+    ends : 2 * length (chain (n + 1) edges) ≡ 2 * length (chain n edges) + 2 * length (edges n)
+    ends = omega (arith, ap length (chain-more n edges), length-append (chain n edges) (edges n))
 
     -- The record ends where the next one starts, before the edges.
     last : w * n + 2 * length (records n) ≤ w * (n + 1)
@@ -170,28 +170,27 @@ module _ {m nb₀ : List ℕ} {nodes : ℕ} (held : Held m nodes nb₀) {n at : 
     next-records =
         let k : w * n ≡ 0 + 2 * length (chain n records) = omega (arith, records-long m nb₀ nodes n) in
         subst (λ (us : List ℕ). Stand 0 us new) (chain-more n records)
-        (stand-then (stand-below (record-laid .stays) (omega (arith, k)) (stand-below (edges-laid .stays) (omega (arith, k, within, d .ends)) (d .records)))
+        (stand-then (stand-below (record-laid .stays) (omega (arith, k)) (stand-below (edges-laid .stays) (omega (arith, k, within, starts)) (d .records)))
         (subst (λ (a : ℕ). Stand a (records n) new) k (record-laid .stand)))
 
     next-edges : Stand (w * nodes) (chain (n + 1) edges) new
     next-edges =
         subst (λ (us : List ℕ). Stand (w * nodes) us new) (chain-more n edges)
         (stand-past (record-laid .stays) (omega (arith, within, last))
-        (stand-then (stand-below (edges-laid .stays) (omega (arith, d .ends)) (d .edges)) (subst (λ (a : ℕ). Stand a (edges n) (e .between)) (d .ends) (edges-laid .stand))))
+        (stand-then (stand-below (edges-laid .stays) (omega (arith, starts)) (d .edges)) (subst (λ (a : ℕ). Stand a (edges n) (e .between)) starts (edges-laid .stand))))
 
-    pub done-next : Done m nb₀ nodes (n + 1) end new
+    pub done-next : Done m nb₀ nodes (n + 1) new
     done-next = record {
       within = omega arith;
       long = record-laid .stays .long ∙ edges-laid .stays .long ∙ d .long;
       records = next-records;
       edges = next-edges;
-      ahead = λ j p q. record-laid .stays .past j (omega (arith, last)) ∙ edges-laid .stays .below j (omega (arith, d .ends)) ∙ d .ahead j (omega arith) q;
-      past = λ j p. record-laid .stays .past j (omega (arith, last, within, d .ends, ends)) ∙ edges-laid .stays .past j (omega (arith, ends)) ∙ d .past j (omega (arith, ends));
-      ends = omega (arith, ends, d .ends, ap length (chain-more n edges), length-append (chain n edges) (edges n));
+      ahead = λ j p q. record-laid .stays .past j (omega (arith, last)) ∙ edges-laid .stays .below j (omega (arith, starts)) ∙ d .ahead j (omega arith) q;
+      past = λ j p. record-laid .stays .past j (omega (arith, last, within, ends)) ∙ edges-laid .stays .past j (omega (arith, starts, ends)) ∙ d .past j (omega (arith, ends));
     }
 
 -- All are done.
-module _ {m nb₀ : List ℕ} {nodes : ℕ} (room : nodeSize (variableCount m) * nodes + edgesBefore (modelOf m) (heldIn m nodes nb₀) nodes ≤ length nb₀) {at : ℕ} {nb : List ℕ} (d : Done m nb₀ nodes nodes at nb) where
+module _ {m nb₀ : List ℕ} {nodes : ℕ} (room : nodeSize (variableCount m) * nodes + edgesBefore (modelOf m) (heldIn m nodes nb₀) nodes ≤ length nb₀) {nb : List ℕ} (d : Done m nb₀ nodes nodes nb) where
   first : List ℕ
   first = fields (nodeBody (modelOf m) (G m nb₀ nodes))
 
@@ -235,7 +234,7 @@ module _ {m nb₀ : List ℕ} {nodes : ℕ} (room : nodeSize (variableCount m) *
       go (yes k) = both-at j k ∙ sym (List·getD-append both (drop (length both) nb₀) 0 j k)
       go (no g) =
           let e : length both + (j - length both) ≡ j = omega arith in
-          d .past j (omega (arith, d .ends, length-append first second, first-long, second-long, edges-begin m nb₀ nodes nodes))
+          d .past j (omega (arith, length-append first second, first-long, second-long, edges-begin m nb₀ nodes nodes))
           ∙ ap (λ (i : ℕ). getD nb₀ i 0) (sym e)
           ∙ sym (getD-drop (length both) nb₀ (j - length both) 0)
           ∙ sym (getD-append-add both (drop (length both) nb₀) (j - length both) 0)
@@ -247,8 +246,8 @@ module _ {m nb₀ : List ℕ} {nodes : ℕ} (room : nodeSize (variableCount m) *
       (omega (arith, d .long, length-append both (drop (length both) nb₀), length-drop (length both) nb₀, length-append first second, first-long, second-long))
       (λ j h. whole-at j)
 
-pub done-over : {m nb₀ : List ℕ} {nodes n at : ℕ} {nb : List ℕ} → Done m nb₀ nodes n at nb → nodes ≤ n → nodeSize (variableCount m) * nodes + edgesBefore (modelOf m) (heldIn m nodes nb₀) nodes ≤ length nb₀
+pub done-over : {m nb₀ : List ℕ} {nodes n : ℕ} {nb : List ℕ} → Done m nb₀ nodes n nb → nodes ≤ n → nodeSize (variableCount m) * nodes + edgesBefore (modelOf m) (heldIn m nodes nb₀) nodes ≤ length nb₀
     → nb ≡ over (bodiesOf (modelOf m) (heldIn m nodes nb₀)) nb₀
-done-over {m} {nb₀} {nodes} {n} {at} {nb} d l room =
+done-over {m} {nb₀} {nodes} {n} {nb} d l room =
     let e : n ≡ nodes = omega (arith, d .within) in
-    all-done room (subst (λ (k : ℕ). Done m nb₀ nodes k at nb) e d)
+    all-done room (subst (λ (k : ℕ). Done m nb₀ nodes k nb) e d)

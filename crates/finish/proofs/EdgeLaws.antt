@@ -102,8 +102,7 @@ module _ {cs : List ℕ} {row : List ℤ} {child at c births bytes count : ℕ} 
   }
 
 pub walk-over : {cs : List ℕ} {row : List ℤ} {child at c births bytes count commands : ℕ} {old new : List ℕ} → Walked cs row child at c births bytes count old new → c ≤ commands → commands ≤ c
-    → EdgesLaid cs row child at commands count (at + bytes) old new
+    → EdgesLaid cs row child at commands count old new
 walk-over {cs} {row} {child} {at} {c} {births} {bytes} {count} {commands} {old} {new} w l h =
     let e : c ≡ commands = omega arith in
-    let done : EdgesLaid cs row child at c count (at + bytes) old new = record { laid = w .laid; counted = w .counted; ends = ap (λ (k : ℕ). at + k) (w .costs .long) } in
-    subst (λ (k : ℕ). EdgesLaid cs row child at k count (at + bytes) old new) e done
+    subst (λ (k : ℕ). EdgesLaid cs row child at k count old new) e (record { laid = w .laid; counted = w .counted })

@@ -1,10 +1,10 @@
 -- The edges and the final record of one node, by the record that it has.
 -- Assumes nothing.
-use Prim.Native.Nat.{ℕ, zero, suc, _+_, _*_, _<_, _≤_}
+use Prim.Native.Nat.{ℕ, _+_, _*_, _<_, _≤_}
 use mathlib.Core.Path.{_≡_, refl, sym, ap, _∙_, subst}
 use mathlib.Core.Bool.{Bool, true, false}
-use mathlib.Core.List.{List, [], _∷_, _++_}
-use native.Mathlib.Nat.{le-step, le-refl}
+use mathlib.Core.List.{List, [], _∷_}
+use native.Mathlib.Nat.{le-refl}
 use native.Mathlib.Omega.{arith}
 use borrow.Author.Tests.{ne-eqb}
 use lib.Dec.{eqb}
@@ -32,15 +32,10 @@ use Rattle.held.proofs.FieldLaws.{field-below, state-same}
 use Rattle.nodes.specs.Born.{onIn, childrenIn, edgesIn}
 use Rattle.nodes.proofs.Expanded.{on-is, children-is, edges-is}
 use Rattle.written.specs.Bytes.{chain}
+use Rattle.written.proofs.FieldLaws.{chain-same}
 use Rattle.finish.specs.Laid.{Laid, finalRecord, edgeIn, EdgesLaid, edgesFrom, whenExpanded, kindIn, ownEdges, ownCount, ownRecord, Fits, OwnLaid, Ended}
 use Rattle.finish.proofs.LaidLaws.{laid-none}
 use Rattle.finish.proofs.FinalLaws.{record-same}
-use Rattle.finish.proofs.EdgeLaws.{edges-long}
-
-pub chain-same : (n : ℕ) (f g : ℕ → List ℕ) → ((i : ℕ) → i < n → f i ≡ g i) → chain n f ≡ chain n g
-unfolding chain
-chain-same zero f g h = refl
-chain-same (suc n) f g h = λ i. chain-same n f g (λ k l. h k (le-step l)) i ++ h n (le-refl (suc n)) i
 
 -- ---- of an expanded node
 module _ {m nb : List ℕ} {n at : ℕ} (fits : Fits m nb n at) (opened : kindIn m nb n ≡ Kind.expanded) {row : List ℤ} (stated : StateRow (modelOf m .entries) (stateIn m nb n) row) where
@@ -86,12 +81,11 @@ module _ {m nb : List ℕ} {n at : ℕ} (fits : Fits m nb n at) (opened : kindIn
         ∙ ap length (passing-same (M .commands) (onIn (body m 3) row) (enabled M S) (on-is valid stated))
         ∙ ap (λ (κ : Kind). ifExpanded κ (length (edgeCommands M S))) (sym opened)
 
-    pub own-laid : {count end : ℕ} {new : List ℕ} → EdgesLaid cs row child at commands count end nb new → OwnLaid m nb n at count end new
-    own-laid {count} {end} {new} e = record {
+    pub own-laid : {count : ℕ} {new : List ℕ} → EdgesLaid cs row child at commands count nb new → OwnLaid m nb n at count new
+    own-laid {count} {new} e = record {
       laid = subst (λ (us : List ℕ). Laid at us nb new) edges-are (e .laid);
       counted = e .counted ∙ count-is;
       few = omega (arith, e .counted, passing-few (onIn cs row) commands, few-commands);
-      ends = omega (arith, e .ends, edges-long cs row child commands, ap length edges-are);
     }
 
 -- ---- of any node
@@ -110,7 +104,7 @@ module _ (m nb : List ℕ) (n : ℕ) {k : ℕ} (p : k ≡ nodeIn m nb n kindFiel
       go false true = t
       go false false = w
 
-  pub own-none : (at : ℕ) → OwnLaid m nb n at 0 at nb
+  pub own-none : (at : ℕ) → OwnLaid m nb n at 0 nb
   unfolding ownEdges ownCount
   own-none at =
       let e : ownEdges m nb n ≡ [] = none-by (λ κ. whenExpanded κ (edgesFrom (modelOf m) (stateIn m nb n) (nodeIn m nb n childField))) [] refl refl refl in
@@ -118,7 +112,6 @@ module _ (m nb : List ℕ) (n : ℕ) {k : ℕ} (p : k ≡ nodeIn m nb n kindFiel
         laid = rw e (laid-none at nb);
         counted = sym (none-by (λ κ. ifExpanded κ (length (edgeCommands (modelOf m) (stateIn m nb n)))) 0 refl refl refl);
         few = omega arith;
-        ends = omega (arith, ap length e);
       }
 
 -- A node whose record is the same has the same edges and the same final record.
@@ -142,19 +135,18 @@ module _ (m old new : List ℕ) (n : ℕ) (same : (f : ℕ) → f < fieldCount (
   same-record = ap (finalRecord (variableCount m) new n) same-count ∙ record-same (variableCount m) n (ownCount m old n) old new same
 
 -- Edges first, then the record.
-pub ended : {m nb : List ℕ} {n at : ℕ} → Fits m nb n at → {vars count end : ℕ} {mid new : List ℕ} → vars ≡ variableCount m → OwnLaid m nb n at count end mid
-    → Laid (nodeSize vars * n) (finalRecord vars mid n count) mid new → Ended m nb n at end new
+pub ended : {m nb : List ℕ} {n at : ℕ} → Fits m nb n at → {vars count : ℕ} {mid new : List ℕ} → vars ≡ variableCount m → OwnLaid m nb n at count mid
+    → Laid (nodeSize vars * n) (finalRecord vars mid n count) mid new → Ended m nb n at new
 unfolding ownRecord
-ended {m} {nb} {n} {at} fits {vars} {count} {end} {mid} {new} v o f = record {
+ended {m} {nb} {n} {at} fits {vars} {count} {mid} {new} v o f = record {
   between = mid;
   edges = o .laid;
   final =
       subst (λ (us : List ℕ). Laid (nodeSize (variableCount m) * n) us mid new)
       (ap (finalRecord (variableCount m) mid n) (o .counted) ∙ record-same (variableCount m) n (ownCount m nb n) nb mid (λ g l. field-below (variableCount m) (o .laid .stays) n g l (fits .past)))
       (subst (λ (k : ℕ). Laid (nodeSize k * n) (finalRecord k mid n count) mid new) v f);
-  ends = o .ends;
 }
 
 -- The record is there.
-pub record-room : {m nb : List ℕ} {n at : ℕ} → Fits m nb n at → {vars count end : ℕ} {mid : List ℕ} → vars ≡ variableCount m → OwnLaid m nb n at count end mid → Whole vars mid n
+pub record-room : {m nb : List ℕ} {n at : ℕ} → Fits m nb n at → {vars count : ℕ} {mid : List ℕ} → vars ≡ variableCount m → OwnLaid m nb n at count mid → Whole vars mid n
 record-room fits v o = rw v (omega (arith, fits .past, fits .room, o .laid .stays .long))

@@ -22,7 +22,7 @@ use Rattle.building.specs.Building.{enabled, before, births, edgeCommands, kind
 use Rattle.building.specs.Length.{edgesLength}
 use Rattle.put.specs.Put.{Stays}
 use Rattle.held.specs.Held.{kindField, coverField, childField, trackedField, stateField, fieldCount, nodeIn, stateIn, NodeHere}
-use Rattle.nodes.specs.Born.{onIn, childrenIn, edgesIn}
+use Rattle.nodes.specs.Born.{onIn, childrenIn}
 use Rattle.written.specs.Bytes.{chain}
 
 -- The fields `us` stand from `at` on.
@@ -60,11 +60,10 @@ module _ (cs : List ℕ) (row : List ℤ) (child : ℕ) where
   abbrev pub edgeIn : ℕ → List ℕ
   edgeIn c = pick (onIn cs row c) (c ∷ tab (field 4 cs c 1) (λ b. child + childrenIn cs row c + b)) []
 
-  -- Those of the commands before c are laid; how many they are, and where they end.
-  pub record EdgesLaid (at c count end : ℕ) (old new : List ℕ) : Type 0 where
+  -- Those of the commands before c are laid; how many they are.
+  pub record EdgesLaid (at c count : ℕ) (old new : List ℕ) : Type 0 where
     pub laid : Laid at (chain c edgeIn) old new
     pub counted : count ≡ length (passing c (onIn cs row))
-    pub ends : end ≡ at + edgesIn cs row c
 
 -- The same in the model's words.
 unfoldable pub edgesFrom : Model → State → ℕ → List ℕ
@@ -98,15 +97,13 @@ module _ (m nb : List ℕ) (n : ℕ) where
     pub children : kindIn ≡ Kind.expanded → nodeIn m nb n childField + births (modelOf m) (stateIn m nb n) ≤ fieldLimit
 
   -- They are laid.
-  pub record OwnLaid (at count end : ℕ) (new : List ℕ) : Type 0 where
+  pub record OwnLaid (at count : ℕ) (new : List ℕ) : Type 0 where
     pub laid : Laid at ownEdges nb new
     pub counted : count ≡ ownCount
     pub few : count < fieldLimit
-    pub ends : end ≡ at + 2 * length ownEdges
 
   -- Edges first, then the record.
-  pub record Ended (at end : ℕ) (new : List ℕ) : Type 0 where
+  pub record Ended (at : ℕ) (new : List ℕ) : Type 0 where
     pub between : List ℕ
     pub edges : Laid at ownEdges nb between
     pub final : Laid (nodeSize (variableCount m) * n) ownRecord between new
-    pub ends : end ≡ at + 2 * length ownEdges

@@ -21,9 +21,10 @@ ghost use Rattle.graph.specs.Figures.{over};
 ghost use Rattle.graph.specs.Simulation.{nodeSize, edgeBytes, kindOf};
 ghost use Rattle.building.specs.Building.{kindNumber, ifCovered};
 ghost use Rattle.building.specs.Length.{edgesBefore};
+ghost use Rattle.building.specs.Counts.{Walked};
 ghost use Rattle.held.specs.Held.{fieldCount, heldIn, Whole};
 ghost use Rattle.nodes.specs.Born.{childrenIn, edgesIn};
-ghost use Rattle.wants.specs.Standing.{Held};
+ghost use Rattle.wants.specs.Standing.{rowIn, Held};
 ghost use Rattle.finish.specs.Finish.{bodiesOf};
 ghost use Rattle.finish.specs.Laid.{Laid, finalValue, finalField, finalRecord, EdgesLaid, kindIn, Fits, OwnLaid, Ended};
 
@@ -134,13 +135,7 @@ fn put_edge(on: bool, nb: &mut [u8], at: usize, c: usize, x: usize, count: usize
     }
 }
 
-// A node's edges: how many, and where they end.
-struct Edges {
-    count: usize,
-    end: usize,
-}
-
-// Of a node whose children start at `child`, by the row of what entries are in its state.
+// The edges of a node whose children start at `child`, by the row of what entries are in its state: how many they are.
 fn put_edges(
     cs: &[u8],
     row: &[i64],
@@ -148,10 +143,10 @@ fn put_edges(
     child: usize,
     at: usize,
     nb: &mut [u8],
-) -> Edges
+) -> usize
     requires { ⌜ (commands ≤ mostCommands) × (child + childrenIn (now cs) (now row) commands ≤ fieldLimit) ⌝ }
     requires { ⌜ at + edgesIn (now cs) (now row) commands ≤ length (now nb) ⌝ }
-    ensures { λ r. ⌜ EdgesLaid (now (cs .entry)) (now (row .entry)) child at commands (r .count) (r .end) (now (nb .entry)) (now (nb .exit)) ⌝ }
+    ensures { λ r. ⌜ EdgesLaid (now (cs .entry)) (now (row .entry)) child at commands r (now (nb .entry)) (now (nb .exit)) ⌝ }
 {
     let mut births = 0;
     let mut bytes = 0;
@@ -166,18 +161,15 @@ fn put_edges(
         count += nodes::if_on(on, 1);
         c += 1;
     }
-    Edges {
-        count,
-        end: at + bytes,
-    }
+    count
 }
 
 // ---- nodes
 
-fn expanded_edges(m: &[u8], nb: &mut [u8], n: usize, at: usize) -> Edges
+fn expanded_edges(m: &[u8], nb: &mut [u8], n: usize, at: usize) -> usize
     requires { ⌜ Fits (now m) (now nb) n at ⌝ }
     requires { ⌜ kindIn (now m) (now nb) n ≡ Kind.expanded ⌝ }
-    ensures { λ r. ⌜ OwnLaid (now (m .entry)) (now (nb .entry)) n at (r .count) (r .end) (now (nb .exit)) ⌝ }
+    ensures { λ r. ⌜ OwnLaid (now (m .entry)) (now (nb .entry)) n at r (now (nb .exit)) ⌝ }
 {
     let size = graph::node_size(graph::variable_count(m));
     let mut row = [0i64; MOST_EXPRESSIONS];
@@ -188,39 +180,39 @@ fn expanded_edges(m: &[u8], nb: &mut [u8], n: usize, at: usize) -> Edges
     put_edges(cs, &row, commands, child, at, nb)
 }
 
-fn node_edges(m: &[u8], nb: &mut [u8], n: usize, at: usize) -> Edges
+fn node_edges(m: &[u8], nb: &mut [u8], n: usize, at: usize) -> usize
     requires { ⌜ Fits (now m) (now nb) n at ⌝ }
-    ensures { λ r. ⌜ OwnLaid (now (m .entry)) (now (nb .entry)) n at (r .count) (r .end) (now (nb .exit)) ⌝ }
+    ensures { λ r. ⌜ OwnLaid (now (m .entry)) (now (nb .entry)) n at r (now (nb .exit)) ⌝ }
 {
     let size = graph::node_size(graph::variable_count(m));
     if folder::field(size, nb, n, KIND) == graph::EXPANDED {
         return expanded_edges(m, nb, n, at);
     }
-    Edges { count: 0, end: at }
+    0
 }
 
 // Its edges hang on what its record has now, so they come first.
-fn finish_node(m: &[u8], nb: &mut [u8], n: usize, at: usize) -> usize
+fn finish_node(m: &[u8], nb: &mut [u8], n: usize, at: usize)
     requires { ⌜ Fits (now m) (now nb) n at ⌝ }
-    ensures { λ r. ⌜ Ended (now (m .entry)) (now (nb .entry)) n at r (now (nb .exit)) ⌝ }
+    ensures { λ _. ⌜ Ended (now (m .entry)) (now (nb .entry)) n at (now (nb .exit)) ⌝ }
 {
     let vars = graph::variable_count(m);
-    let e = node_edges(m, nb, n, at);
-    put_record(vars, nb, n, e.count);
-    e.end
+    let count = node_edges(m, nb, n, at);
+    put_record(vars, nb, n, count);
 }
 
-// The records hold a graph; afterwards the slice has its two bodies.
-pub fn finish(m: &[u8], nodes: usize, nb: &mut [u8])
+// The records hold a graph, whose edges begin where the row says; afterwards the slice has its two bodies.
+pub fn finish(m: &[u8], nodes: usize, begins: &[u32], nb: &mut [u8])
     requires { ⌜ Held (now m) nodes (now nb) ⌝ }
     requires { ⌜ nodeSize (variableCount (now m)) * nodes + edgesBefore (modelOf (now m)) (heldIn (now m) nodes (now nb)) nodes ≤ length (now nb) ⌝ }
+    requires { ⌜ nodes ≤ length (now begins) ⌝ }
+    requires { ⌜ Walked (modelOf (now m)) (heldIn (now m) nodes (now nb)) (rowIn (now begins)) ⌝ }
     ensures { λ _. ⌜ now (nb .exit) ≡ over (bodiesOf (modelOf (now (m .entry))) (heldIn (now (m .entry)) nodes (now (nb .entry)))) (now (nb .entry)) ⌝ }
 {
-    let size = graph::node_size(graph::variable_count(m));
-    let mut at = size * nodes;
+    let first = graph::node_size(graph::variable_count(m)) * nodes;
     let mut n = 0;
     while n < nodes {
-        at = finish_node(m, nb, n, at);
+        finish_node(m, nb, n, first + begins::begin_of(begins, n));
         n += 1;
     }
 }

@@ -22,7 +22,6 @@ use Rattle.building.specs.Moves.{Limit, Move, track, adopt, drop, coverBy, reac
 use Rattle.building.specs.Kept.{Kept, Mended}
 use Rattle.building.specs.Working.{ReadRight, ParentRight, Settled, HintRight, MarkRight, NextRight}
 use Rattle.building.proofs.FirstLaws.{nothing, orelse-some, given-some, first-none, first-some, onward-some}
-use Rattle.put.specs.Put.{Stays}
 use Rattle.put.proofs.PutLaws.{stays-both}
 use Rattle.held.specs.Held.{parentField, readField, hintField, heldIn}
 use Rattle.nodes.proofs.Expanded.{variables-some}

@@ -1,13 +1,15 @@
 -- One round over a row that holds the values, in place, and whether it changes any.
 -- Assumes nothing.
-use Prim.Native.Nat.{ℕ, zero, suc}
+use Prim.Native.Nat.{ℕ, zero, suc, _<_, _≤_}
+use mathlib.Core.Path.{_≡_}
 use mathlib.Core.Bool.{Bool, true, _&&_}
 use mathlib.Core.List.{List}
 use lib.Dec.{eqb}
-use lib.ListN.{getD}
+use lib.ListN.{length, getD}
 use Rattle.folder.specs.Tab.{fill}
 use Rattle.model.specs.Model.{Model, modelOf}
 use Rattle.graph.specs.Simulation.{Simulation, nodeCount, simulationOf}
+use Rattle.graph.specs.Walks.{startsAt}
 use Rattle.building.specs.Values.{leastValue, swept}
 
 -- Of a round from v: no node below n is set to another value than it has.
@@ -25,3 +27,8 @@ module _ (m g : List ℕ) where
 
   abbrev pub stillRow : List ℕ → Bool
   stillRow row = unchanged (modelOf m) (simulationOf (modelOf m) g) (λ k. getD row k 0) nodesOf
+
+  -- The edges of each node start where a row says.
+  pub record Starts (begins : List ℕ) : Type 0 where
+    pub long : nodesOf ≤ length begins
+    pub is : (n : ℕ) → n < nodesOf → getD begins n 0 ≡ startsAt (modelOf m) g n

@@ -18,7 +18,7 @@ ghost use Rattle.graph.specs.Simulation.{nodeCount, simulationOf};
 ghost use Rattle.graph.specs.Valid.{Valid};
 ghost use Rattle.sums.specs.Tables.{Tables, Round};
 ghost use Rattle.building.specs.Values.{roundsOf};
-ghost use Rattle.lowering.specs.Sweeps.{nodesOf, sweptRow, stillRow};
+ghost use Rattle.lowering.specs.Sweeps.{nodesOf, sweptRow, stillRow, Starts};
 
 // Certainty.
 const UNITS: u32 = graph::UNITS as u32;
@@ -57,9 +57,17 @@ fn still(same: bool, old: u32, value: u32) -> bool
 }
 
 // One round. The answer: no value has changed.
-fn sweep(m: &[u8], g: &[u8], weights: &[usize], firsts: &[usize], row: &mut [u32]) -> bool
+fn sweep(
+    m: &[u8],
+    g: &[u8],
+    weights: &[usize],
+    firsts: &[usize],
+    begins: &[u32],
+    row: &mut [u32],
+) -> bool
     requires { ⌜ Valid (now m) (now g) ⌝ }
     requires { ⌜ Tables (modelOf (now m)) (now weights) (now firsts) ⌝ }
+    requires { ⌜ Starts (now m) (now g) (now begins) ⌝ }
     requires { ⌜ Round (nodesOf (now m) (now g)) (now row) ⌝ }
     ensures { λ r. ⌜ r ≡ stillRow (now (m .entry)) (now (g .entry)) (now (row .entry)) ⌝ }
     ensures { λ _. ⌜ now (row .exit) ≡ sweptRow (now (m .entry)) (now (g .entry)) (now (row .entry)) ⌝ }
@@ -71,18 +79,17 @@ fn sweep(m: &[u8], g: &[u8], weights: &[usize], firsts: &[usize], row: &mut [u32
     let nb = folder::body(g, 0);
     let eb = folder::body(g, 1);
     let mut same = true;
-    let mut at = 0;
     let mut n = 0;
     while n < nodes {
         let kind = folder::field(size, nb, n, 0);
         let cover = folder::field(size, nb, n, 1);
         let count = folder::field(size, nb, n, 4);
+        let at = begins::begin_of(begins, n);
         let best = sums::best_of(cs, eb, weights, firsts, row, at, count);
         let from = source_of(kind, cover, n);
         let value = value_by(kind, best.greatest, d, row[from]);
         same = still(same, row[n], value);
         row[n] = value;
-        at = best.next;
         n += 1;
     }
     same
@@ -107,9 +114,18 @@ fn reached(same: bool, k: usize, rounds: usize) -> usize
     if same { rounds } else { k }
 }
 
-fn sweeps(m: &[u8], g: &[u8], weights: &[usize], firsts: &[usize], rounds: usize, row: &mut [u32])
+fn sweeps(
+    m: &[u8],
+    g: &[u8],
+    weights: &[usize],
+    firsts: &[usize],
+    begins: &[u32],
+    rounds: usize,
+    row: &mut [u32],
+)
     requires { ⌜ Valid (now m) (now g) ⌝ }
     requires { ⌜ Tables (modelOf (now m)) (now weights) (now firsts) ⌝ }
+    requires { ⌜ Starts (now m) (now g) (now begins) ⌝ }
     requires { ⌜ nodesOf (now m) (now g) ≤ length (now row) ⌝ }
     ensures { λ _. ⌜ now (row .exit) ≡ fill (nodesOf (now (m .entry)) (now (g .entry))) (roundsOf (modelOf (now (m .entry))) (simulationOf (modelOf (now (m .entry))) (now (g .entry))) rounds) (now (row .entry)) ⌝ }
 {
@@ -117,19 +133,21 @@ fn sweeps(m: &[u8], g: &[u8], weights: &[usize], firsts: &[usize], rounds: usize
     fill_units(nodes, row);
     let mut k = 0;
     while k < rounds {
-        let same = sweep(m, g, weights, firsts, row);
+        let same = sweep(m, g, weights, firsts, begins, row);
         k = reached(same, k + 1, rounds);
     }
 }
 
 // The front of the row gets each node's value after that many rounds. A round that changes nothing is the last that is made.
-pub fn lower(m: &[u8], g: &[u8], rounds: usize, row: &mut [u32])
+// Each node's edges start where `begins` says.
+pub fn lower(m: &[u8], g: &[u8], begins: &[u32], rounds: usize, row: &mut [u32])
     requires { ⌜ Valid (now m) (now g) ⌝ }
+    requires { ⌜ Starts (now m) (now g) (now begins) ⌝ }
     requires { ⌜ nodeCount (modelOf (now m)) (now g) ≤ length (now row) ⌝ }
     ensures { λ _. ⌜ now (row .exit) ≡ fill (nodeCount (modelOf (now (m .entry))) (now (g .entry))) (roundsOf (modelOf (now (m .entry))) (simulationOf (modelOf (now (m .entry))) (now (g .entry))) rounds) (now (row .entry)) ⌝ }
 {
     let mut weights = [0usize; MOST_RECORDS];
     let mut firsts = [0usize; MOST_COMMANDS];
     sums::fill_tables(m, &mut weights, &mut firsts);
-    sweeps(m, g, &weights, &firsts, rounds, row);
+    sweeps(m, g, &weights, &firsts, begins, rounds, row);
 }

@@ -8,7 +8,6 @@ use native.Mathlib.Decide.{decLt}
 use native.Mathlib.Omega.{arith}
 use lib.ListN.{length, getD, set, length-set}
 use lib.IntN.{ℤ}
-use Rattle.mdp.proofs.SumLaws.{sum-more}
 use Rattle.folder.specs.Fields.{fieldLimit, field4Limit}
 use Rattle.folder.specs.Tab.{tab}
 use Rattle.folder.proofs.TabLaws.{length-tab, getD-tab}
@@ -22,11 +21,11 @@ use Rattle.model.proofs.Limits.{limits}
 use Rattle.graph.specs.Limits.{leastBytes, mostBytes, mostNodes}
 use Rattle.graph.specs.Simulation.{nodeSize}
 use Rattle.building.specs.Building.{Building, startSet, births}
-use Rattle.building.specs.Length.{edgesLength, edgesOf, edgesBefore, graphLength, lengthWith}
+use Rattle.building.specs.Length.{edgesLength, edgesBefore, graphLength, lengthWith}
 use Rattle.building.specs.Moves.{Limit, expanding, expand}
 use Rattle.building.specs.Kept.{Kept}
 use Rattle.building.specs.Counts.{Counts, beginAfter}
-use Rattle.building.proofs.Lengths.{length-expanding}
+use Rattle.building.proofs.Lengths.{edges-within, length-expanding}
 use Rattle.building.proofs.Counting.{waiting-few, expand-counts}
 use Rattle.building.proofs.Working.{read-expanding, settled-expanding, parent-expanding, hint-expanding, reach-expanding, next-expanding, mark-expanding}
 use Rattle.put.proofs.PutLaws.{stays-both}
@@ -54,11 +53,6 @@ nodes-part M B = omega arith
 edges-part : (M : Model) (B : Building) → graphLength M B ≡ leastBytes + nodeSize (M .variables) * B .nodes + edgesBefore M B (B .nodes)
 unfolding graphLength
 edges-part M B = refl
-
--- A node's edges begin before all edges end.
-begins-within : (M : Model) (B : Building) (i : ℕ) → i < B .nodes → edgesBefore M B i ≤ edgesBefore M B (B .nodes)
-unfolding edgesBefore
-begins-within M B i l = omega (arith, sum-more (B .nodes) (edgesOf M B) i l)
 
 module _ {m : List ℕ} {longest : ℕ} {w : Work} {nb marks reaches begins : List ℕ} {n : ℕ} (R : Ready m longest w nb marks reaches begins (some (expand n))) where
   abbrev M : Model
@@ -183,7 +177,7 @@ module _ {m : List ℕ} {longest : ℕ} {w : Work} {nb marks reaches begins : Li
       pub may-begin : ((n < w .nodes) × (w .nodes + b ≤ length begins) × (end < field4Limit)) × ((i : ℕ) → n < i → i < w .nodes → getD begins i 0 + e < field4Limit)
       may-begin = (
         (there, omega (arith, few, x, R .rows .2), omega (arith, end-is, nodes-within, sum-small)),
-        λ i h l. omega (arith, R .counts .walked i l, begins-within M B i l, nodes-within, sum-small),
+        λ i h l. omega (arith, R .counts .walked i l, edges-within M B i l, nodes-within, sum-small),
       )
 
       pub one-waits : 1 ≤ w .waiting

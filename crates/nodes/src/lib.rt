@@ -1,7 +1,7 @@
 // A graph while it is built, in the node records of the slice that it is built in: fields read and written, moves made.
 ghost use mathlib.Core.Path.{_≡_};
 ghost use Prim.Native.Nat.{_+_, _*_, _<_, _≤_, _^_};
-ghost use lib.ListN.{length, getD};
+ghost use lib.ListN.{length};
 ghost use Rattle.folder.specs.Pick.{pick};
 ghost use Rattle.folder.specs.Fields.{fieldLimit};
 ghost use Rattle.folder.specs.Contents.{field};

@@ -1,7 +1,7 @@
 -- What a written field reads as, and what stays.
 -- Assumes nothing.
 use Prim.Native.Nat.{ℕ, suc, _+_, _-_, _/_, _%_, _<_, _≤_}
-use mathlib.Core.Path.{_≡_, refl, sym, ap, _∙_}
+use mathlib.Core.Path.{_≡_, refl, ap, _∙_}
 use mathlib.Core.Logic.{_⊎_, inl, inr}
 use mathlib.Core.List.{List}
 use native.Mathlib.Nat.{div-add-mod'}
@@ -11,7 +11,6 @@ use lib.Dec.{leb→le}
 use lib.ListN.{length, getD, set, length-set}
 use lib.Seq.{getD-set-same, getD-set-other}
 use lib.IntN.{ℤ, pos, negsuc}
-use lib.Signed.{_≤ℤ_}
 use Rattle.folder.specs.Fields.{fieldLimit, u16, signed16}
 use Rattle.put.specs.Put.{put2, unsigned, FitsField, Stays}
 

@@ -1,19 +1,17 @@
 -- The root alone: its record holds the graph that building starts with, and all that the loop keeps holds of it.
 -- Assumes nothing.
-use Prim.Native.Nat.{ℕ, _+_, _-_, _*_, _<_, _≤_}
+use Prim.Native.Nat.{ℕ, _+_, _-_, _<_, _≤_}
 use mathlib.Core.Path.{_≡_, refl, sym, ap, _∙_, subst}
 use mathlib.Core.Bool.{Bool, true, false, false≢true, _&&_}
 use mathlib.Core.List.{List, []}
-use mathlib.Core.Option.{none}
 use native.Mathlib.Decide.{decLt}
 use native.Mathlib.Omega.{arith}
 use borrow.Author.Tests.{le-leb, lt-leb, lt-ltb, le-ltb}
 use lib.ListN.{length, getD}
-use lib.Dec.{leb, ltb}
+use lib.Dec.{ltb}
 use Rattle.mdp.specs.Kinds.{Kind}
 use Rattle.folder.specs.Fields.{signed16}
 use Rattle.folder.specs.Contents.{body, field}
-use Rattle.folder.specs.Tab.{tab}
 use Rattle.folder.proofs.TabLaws.{tab-same}
 use Rattle.model.specs.Layout.{variableCount}
 use Rattle.model.specs.Model.{Model, modelOf}
@@ -22,25 +20,23 @@ use Rattle.model.specs.Valid.{Valid}
 use Rattle.graph.specs.Limits.{leastBytes, mostBytes, mostNodes}
 use Rattle.graph.specs.Simulation.{nodeSize, kindOf}
 use Rattle.building.specs.First.{put}
-use Rattle.building.specs.Building.{Building, startSet, isOpen}
+use Rattle.building.specs.Building.{Building, startSet}
 use Rattle.building.specs.Length.{graphLength}
-use Rattle.building.specs.Moves.{seed, repairAs, repair}
+use Rattle.building.specs.Moves.{seed, repairAs}
 use Rattle.building.specs.Kept.{Kept}
 use Rattle.building.specs.Built.{Reached}
 use Rattle.building.specs.Counts.{Counts}
-use Rattle.building.specs.Working.{ReadRight, ParentRight, Settled, HintRight, ReachRight, MarkRight, NextRight}
 use Rattle.building.proofs.FirstLaws.{put-at, put-other}
 use Rattle.building.proofs.Keeping.{isWaiting, kept-seed}
 use Rattle.building.proofs.Ending.{reached-start}
 use Rattle.building.proofs.Short.{seed-length}
 use Rattle.building.proofs.Counting.{seed-counts}
-use Rattle.put.specs.Put.{Stays}
 use Rattle.held.specs.Held.{kindField, coverField, childField, parentField, trackedField, stateField, hintField, nodeIn, stateIn, setIn, heldIn}
 use Rattle.held.proofs.Made.{counted, counted-in, counted-past}
-use Rattle.wants.specs.Standing.{readIn, parentIn, hintIn, rowIn, Held}
+use Rattle.wants.specs.Standing.{parentIn, hintIn, rowIn}
 use Rattle.work.specs.declared.Work.{Work}
-use Rattle.work.specs.Working.{limitOf, graphIn, Lent, Known, Working}
-use Rattle.work.specs.Root.{rootField, Begun}
+use Rattle.work.specs.Working.{limitOf, graphIn, Working}
+use Rattle.work.specs.Root.{Begun}
 use Rattle.work.proofs.RootLaws.{root-value, root-blank}
 
 -- A row of zeros.

@@ -1,34 +1,27 @@
 -- Document 02, 2.5: every graph built is accepted. Its bytes pass the graph check, and are no more than were asked for.
 -- Assumes nothing.
-use Prim.Native.Nat.{ℕ, _+_, _*_, _^_, _<_, _≤_}
-use mathlib.Core.Path.{_≡_, refl, sym, ap, _∙_}
-use mathlib.Core.Bool.{Bool, true, false}
+use Prim.Native.Nat.{ℕ, _+_, _<_, _≤_}
+use mathlib.Core.Path.{_≡_, sym, ap, _∙_}
 use mathlib.Core.List.{List}
-use native.Mathlib.Nat.{pow-le-pow-right, mul-mod-right, div-lt-iff-lt-mul, one-le-pow}
+use native.Mathlib.Nat.{mul-mod-right}
 use native.Mathlib.Decide.{ℕ-discrete}
 use native.Mathlib.Omega.{arith}
 use lib.ListN.{length}
-use lib.IntN.{pos}
-use lib.Signed.{leZ-yes}
-use Rattle.folder.specs.Fields.{fieldLimit}
 use Rattle.folder.specs.Tab.{passing}
 use Rattle.folder.specs.Contents.{countOf}
 use Rattle.folder.specs.declared.Outcome.{Outcome}
 use Rattle.folder.specs.declared.Outcome.the-variants.{Accepted}
 use Rattle.folder.proofs.TabLaws.{length-tab}
 use Rattle.folder.proofs.ListLaws.{passing-few}
-use Rattle.whole.proofs.Order.{to-⊑, from-⊑, ⊑-trans}
-use Rattle.model.specs.Limits.{mostVariables, mostCommands}
 use Rattle.model.specs.Model.{Model, modelOf}
 use Rattle.model.specs.Pedal.{fields}
 use Rattle.model.specs.Table.{modelOutcome}
 use Rattle.model.specs.Valid as Models
-use Rattle.model.specs.Valid.{ModelRight}
 use Rattle.model.proofs.Decided as Checked
 use Rattle.model.proofs.Limits.{limits}
 use Rattle.graph.specs.Limits.{leastBytes, mostBytes, mostNodes}
 use Rattle.graph.specs.Simulation.{Simulation, nodeSize, nodeCount, simulationOf}
-use Rattle.graph.specs.Labels.{tracks, byStates}
+use Rattle.graph.specs.Labels.{byStates}
 use Rattle.graph.specs.Rules.{enabledIn}
 use Rattle.graph.specs.Table.{graphOutcome, summary, answerOf, graphAnswer}
 use Rattle.graph.specs.Valid.{FolderRight, ContentRight, RulesRight}
@@ -43,77 +36,32 @@ use Rattle.building.proofs.Built.{built-accepted}
 use Rattle.building.proofs.Short.{built-short}
 use Rattle.written.specs.Same.{Same}
 use Rattle.written.specs.Bytes.{nodeBody, edgeBody, graphBytes}
-use Rattle.put.specs.Put.{FitsField}
 use Rattle.written.proofs.FolderLaws.{folder-length, body-0, entries-right}
 use Rattle.written.proofs.ReadBack.{Fitting, bytes-long, reads-back}
 use Rattle.written.proofs.LengthLaws.{written-length}
+use Rattle.written.proofs.Fits.{fitting}
 use Rattle.written.proofs.Transfer.{summary-same, content-same, rules-same}
-
--- ---- any graph that keeps the rules fits its fields
-module _ (M : Model) (X : ModelRight M) (few-variables : M .variables ≤ mostVariables) (few-commands : M .commands ≤ mostCommands) (G : Simulation) (K : ContentRight M G) (A : RulesRight M G (byStates M G)) (few : G .nodes ≤ mostNodes) where
-  zero-fits : FitsField (pos 0)
-  zero-fits = record { low = leZ-yes tt; high = leZ-yes tt }
-
-  concrete-fits : (n : ℕ) → n < G .nodes → (v : ℕ) → v < M .variables → FitsField (G .concrete n v)
-  concrete-fits n l v h = record {
-    low = from-⊑ (⊑-trans (to-⊑ (X .variables v h .least)) (to-⊑ (K .nodes n l .low v h)));
-    high = from-⊑ (⊑-trans (to-⊑ (K .nodes n l .high v h)) (to-⊑ (X .variables v h .most)));
-  }
-
-  label-fits : (n : ℕ) → n < G .nodes → (v : ℕ) → v < M .variables → FitsField (G .label n v)
-  label-fits n l v h = go (tracks G n v) refl
-    where
-      go : (t : Bool) → tracks G n v ≡ t → FitsField (G .label n v)
-      go true t = rw (A .a1 n l v h t) (concrete-fits n l v h)
-      go false t = rw (K .nodes n l .untracked v h t) zero-fits
-
-  tracked-fits : (n : ℕ) → n < G .nodes → G .tracked n < fieldLimit
-  tracked-fits n l =
-      let some : 0 < 2 ^ M .variables = omega (arith, one-le-pow (M .variables) 2 (omega arith)) in
-      let small : G .tracked n < 1 * 2 ^ M .variables = div-lt-iff-lt-mul {k = 2 ^ M .variables} {x = G .tracked n} {y = 1} some .0 (omega (arith, K .nodes n l .bits)) in
-      let most : 2 ^ M .variables ≤ 2 ^ mostVariables = pow-le-pow-right {n = 2} (omega arith) few-variables in
-      omega arith
-
-  edges-fit : (n : ℕ) → n < G .nodes → G .edges n < fieldLimit
-  edges-fit n l = go (ℕ-discrete (G .kind n) 1)
-    where
-      go : Dec (G .kind n ≡ 1) → G .edges n < fieldLimit
-      go (yes k) =
-          let e : G .edges n ≡ length (passing (M .commands) (enabledIn M G n)) = sym (length-tab (G .edges n) (G .command n)) ∙ ap length (A .b1 n l k) in
-          omega (arith, passing-few (enabledIn M G n) (M .commands))
-      go (no d) = omega (arith, K .nodes n l .edges d)
-
-  cover-fits : (n : ℕ) → n < G .nodes → G .cover n < fieldLimit
-  cover-fits n l = go (ℕ-discrete (G .kind n) 2)
-    where
-      go : Dec (G .kind n ≡ 2) → G .cover n < fieldLimit
-      go (yes k) = let h : G .cover n < G .nodes = A .c3 n l k .0 in omega arith
-      go (no d) = omega (arith, K .nodes n l .cover d)
-
-  fitting : length (graphBytes M G) ≤ mostBytes → Fitting M G
-  fitting short = record {
-    kind = λ n l. omega (arith, K .nodes n l .kind);
-    cover = cover-fits;
-    value = λ n l. omega (arith, K .nodes n l .value);
-    edges = edges-fit;
-    tracked = tracked-fits;
-    concrete = concrete-fits;
-    label = label-fits;
-    command = λ n l e h. omega (arith, K .edges n l e h .command);
-    successor = λ n l e h b q. omega (arith, K .edges n l e h .successors b q);
-    short = omega arith;
-  }
 
 -- ---- and its bytes are accepted
 module _ (m : List ℕ) (W : Models.Valid m) (G : Simulation) (K : ContentRight (modelOf m) G) (A : RulesRight (modelOf m) G (byStates (modelOf m) G)) (some : 1 ≤ G .nodes) (few : G .nodes ≤ mostNodes) (short : length (graphBytes (modelOf m) G) ≤ mostBytes) where
   abbrev M : Model
   M = modelOf m
 
-  F : Fitting M G
-  F = fitting M (W .model) (limits (W .folder) .variables) (limits (W .folder) .commands) G K A few short
+  -- The edges of a node are enabled commands.
+  few-edges : (n : ℕ) → n < G .nodes → G .edges n ≤ M .commands
+  few-edges n l = go (ℕ-discrete (G .kind n) 1)
+    where
+      go : Dec (G .kind n ≡ 1) → G .edges n ≤ M .commands
+      go (yes k) =
+          let e : G .edges n ≡ length (passing (M .commands) (enabledIn M G n)) = sym (length-tab (G .edges n) (G .command n)) ∙ ap length (A .b1 n l k) in
+          omega (arith, passing-few (enabledIn M G n) (M .commands))
+      go (no d) = omega (arith, K .nodes n l .edges d)
+
+  pub written-fits : Fitting M G
+  written-fits = fitting M (W .model) (limits (W .folder) .variables) (limits (W .folder) .commands) G K few (A .a1) (A .c3) few-edges short
 
   pub written-same : Same M G (simulationOf M (graphBytes M G))
-  written-same = reads-back M G F
+  written-same = reads-back M G written-fits
 
   folder-right : FolderRight M (graphBytes M G)
   unfolding graphBytes countOf
@@ -123,8 +71,8 @@ module _ (m : List ℕ) (W : Models.Valid m) (G : Simulation) (K : ContentRight 
       record {
         long = omega (arith, n);
         short = short;
-        contents = entries-right (fields (nodeBody M G)) (fields (edgeBody M G)) (F .short);
-        whole = rw (body-0 (fields (nodeBody M G)) (fields (edgeBody M G)) (F .short), bytes-long M G) (mul-mod-right (nodeSize (M .variables)) (G .nodes));
+        contents = entries-right (fields (nodeBody M G)) (fields (edgeBody M G)) (written-fits .short);
+        whole = rw (body-0 (fields (nodeBody M G)) (fields (edgeBody M G)) (written-fits .short), bytes-long M G) (mul-mod-right (nodeSize (M .variables)) (G .nodes));
         some = omega (arith, e);
         few = omega (arith, e);
       }

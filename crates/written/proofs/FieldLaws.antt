@@ -4,7 +4,7 @@ use Prim.Native.Nat.{ℕ, zero, suc, _+_, _*_, _/_, _%_, _<_, _≤_}
 use mathlib.Core.Path.{_≡_, refl, ap, _∙_}
 use mathlib.Core.Logic.{_⊎_, inl, inr}
 use mathlib.Core.List.{List, [], _∷_, _++_}
-use native.Mathlib.Nat.{eq-or-lt-of-le, le-of-suc-le-suc, not-suc-le-zero, div-add-mod', mod-eq-of-lt, mod-lt, div-lt-iff-lt-mul}
+use native.Mathlib.Nat.{le-step, le-refl, eq-or-lt-of-le, le-of-suc-le-suc, not-suc-le-zero, div-add-mod', mod-eq-of-lt, mod-lt, div-lt-iff-lt-mul}
 use native.Mathlib.Omega.{arith}
 use lib.ListN.{length, getD, length-append, List·getD-append}
 use lib.Seq.{getD-append-add}
@@ -38,6 +38,12 @@ u16-fields (x ∷ xs) zero h = two-back x h
 u16-fields (x ∷ xs) (suc k) h = ap (u16 (fields (x ∷ xs))) (double k) ∙ u16-past (x % 256) (x / 256 % 256) (fields xs) (2 * k) ∙ u16-fields xs k h
 
 -- ---- lists one after the other
+-- Each equal to another's.
+pub chain-same : (n : ℕ) (f g : ℕ → List ℕ) → ((i : ℕ) → i < n → f i ≡ g i) → chain n f ≡ chain n g
+unfolding chain
+chain-same zero f g h = refl
+chain-same (suc n) f g h = λ i. chain-same n f g (λ k l. h k (le-step l)) i ++ h n (le-refl (suc n)) i
+
 module _ (f : ℕ → List ℕ) where
   pub chain-within : (n i : ℕ) → i < n → length (chain i f) + length (f i) ≤ length (chain n f)
   unfolding chain

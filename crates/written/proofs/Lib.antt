@@ -4,6 +4,7 @@ pub mod ReadBack
 pub mod Transfer
 pub mod LengthLaws
 pub mod Counted
+pub mod Fits
 pub mod Accepted
 pub mod Figures
 pub mod Pedal

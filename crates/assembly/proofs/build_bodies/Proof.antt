@@ -1,4 +1,5 @@
 use denote.Ref.{now}
+use native.Mathlib.Omega.{arith}
 use Rattle.assembly.proofs.Bodies.{edges-fit, bodied}
 use borrow.Author.Needs.{needs}
 use Rattle.assembly.proofs.build_bodies.Statement.{statement}
@@ -6,15 +7,13 @@ use Rattle.assembly.proofs.build_bodies.Tie as tie
 
 finish-requires : tie.Need-finish-requires
 finish-requires c κs =
-    let a = c .before .before .before .before .before .before .before .args in
-    let e = c .before .before .before .build .ensures in
-    (e .1 .0 .held, edges-fit (now (a .m)) (a .longest) (e .0) (e .1 .0))
+    let e = c .before .before .before .before .before .before .build .ensures in
+    (e .1 .0 .held, (edges-fit (now (c .before .before .before .before .before .before .before .before .before .before .before .before .args .m)) (c .before .before .before .before .before .before .before .before .before .before .before .before .args .longest) (e .0) (e .1 .0), (omega (arith, e .1 .0 .held .kept .few, c .before .before .before .before .before .begins .given, c .before .before .before .before .before .before .before .before .before .before .before .before .pre .1 .0), e .1 .0 .walked)))
 
 returns : tie.Need-returns
 returns c =
-    let a = c .before .before .before .before .before .before .before .before .before .before .args in
-    let e = c .before .before .before .before .before .before .build .ensures in
-    bodied (now (a .m)) (a .longest) (e .0) (e .1 .0) (e .1 .1) (c .before .before .finish .ensures)
+    let e = c .before .before .before .before .before .before .before .before .before .build .ensures in
+    bodied (now (c .before .before .before .before .before .before .before .before .before .before .before .before .before .before .before .args .m)) (c .before .before .before .before .before .before .before .before .before .before .before .before .before .before .before .args .longest) (e .0) (e .1 .0) (e .1 .1) (c .before .before .finish .ensures)
 
 pub build-bodies-spec : {M : Type 1} → statement M
-build-bodies-spec = tie.close (tie.spec (λ c κs. search needs) finish-requires (λ c. search needs) returns)
+build-bodies-spec = tie.close (tie.spec (λ c κs. search needs) finish-requires (λ c. search needs) (λ c. search needs) returns)

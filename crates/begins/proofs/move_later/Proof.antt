@@ -1,5 +1,4 @@
 use Prim.Native.Nat.{_+_, _-_, _≤_}
-use mathlib.Core.Path.{ap}
 use native.Mathlib.Omega.{arith}
 use Rattle.put.specs.Put.{Changed}
 use Rattle.put.proofs.ChangeLaws.{change-start, change-next, change-over}

@@ -1,6 +1,4 @@
-use Prim.Native.Nat.{_<_}
 use mathlib.Core.Path.{sym, _∙_}
-use lib.ListN.{length}
 use Rattle.model.specs.Model.{modelOf}
 use Rattle.building.specs.Measure.{measure}
 use Rattle.nodes.specs.Told.{told}

@@ -42,9 +42,6 @@ loop-again c = (
   walk-next (c .before .before .before .before .before .before .before .before .before .before .loop .inv .1) (c .before .before .before .before .before .before .before .before .is-on .ensures) (c .before .before .before .before .before .before .before .field .ensures .0) (c .before .before .before .before .before .before .before .field .ensures .1) (c .before .before .before .before .before .put-edge .ensures) (c .before .before .if-on .ensures) (c .before .if-on2 .ensures) (c .if-on3 .ensures .0),
 )
 
-add-t20 : tie.Need-add-t20 Inv-loop μ-loop
-add-t20 c = omega (arith, walk-over (c .before .loop .inv .1) (c .before .loop .inv .0) (c .loop-test .left) .ends, c .before .before .before .before .pre .1)
-
 same-length : tie.Need-same-length Inv-loop μ-loop
 same-length c = c .before .loop .inv .1 .laid .stays .long
 
@@ -52,4 +49,4 @@ returns : tie.Need-returns Inv-loop μ-loop
 returns c = walk-over (c .before .loop .inv .1) (c .before .loop .inv .0) (c .loop-test .left)
 
 pub put-edges-spec : {M : Type 1} → statement M
-put-edges-spec = tie.close (tie.spec Inv-loop μ-loop loop-holds (λ c κs. search needs) (λ c κs. search needs) add-put-edge add-put-edge-2 put-edge-requires (λ c κs. search needs) add-births (λ c. search needs) (λ c. search needs) (λ c κs. search needs) add-bytes (λ c κs. search needs) add-count (λ c. search needs) (λ c. search needs) loop-again add-t20 same-length returns)
+put-edges-spec = tie.close (tie.spec Inv-loop μ-loop loop-holds (λ c κs. search needs) (λ c κs. search needs) add-put-edge add-put-edge-2 put-edge-requires (λ c κs. search needs) add-births (λ c. search needs) (λ c. search needs) (λ c κs. search needs) add-bytes (λ c κs. search needs) add-count (λ c. search needs) (λ c. search needs) loop-again same-length returns)
