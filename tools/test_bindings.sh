@@ -94,6 +94,17 @@ writes_answers() { # PROGRAM
   says_nothing
 }
 
+# What the library builds, for a comparison with another: a line for each call, and the slice.
+writes_builds() { # PROGRAM
+  ends 0 "$1" 50
+  [ "$(grep -ac ' rounds, room for ' "$out")" -eq 150 ] || fail "it should write 150 calls"
+  grep -aq ': Ok(' "$out" || fail "it should build graphs"
+  ends 2 "$1" fifty
+  says "usage: built"
+  loses_output "$1" built 50
+  says_nothing
+}
+
 # Cargo on a crate whose library is in this folder, apart from what is built otherwise.
 cargo_with() { # FOLDER CRATE COMMAND WORDS...
   local folder=$1 crate=$2/Cargo.toml command=$3
@@ -157,6 +168,7 @@ programs=bindings/rust/target/release/examples
 prints_expected "$programs/check"
 ends_otherwise "$programs/check" check
 writes_answers "$programs/answers"
+writes_builds "$programs/built"
 
 ends 0 cc -std=c99 -O2 -Wall -Wextra -Werror -Iinclude examples/embed/embed.c target/staticlib/liblaguipy_c.a \
   -o target/embed

@@ -39,6 +39,8 @@
 //! It exits with 2 for bad usage, 3 if its output cannot be written; a closed pipe
 //! ends it quietly, with 141.
 
+#[path = "support/counted.rs"]
+mod counted;
 #[path = "../tests/generate/mod.rs"]
 mod generate;
 #[path = "../tests/reference/mod.rs"]
@@ -48,12 +50,8 @@ use generate::limits::limits;
 use generate::{index_before, result_before, row_before, Input};
 use laguipy::{Refusal, Summary};
 use reference::{Part, NO_NODE};
-use std::io::{self, BufWriter, ErrorKind, Write};
+use std::io::{self, BufWriter, StdoutLock, Write};
 use std::process::ExitCode;
-
-const USAGE: u8 = 2;
-const FAILED: u8 = 3;
-const PIPE_CLOSED: u8 = 141;
 
 fn hex(bytes: &[u8]) -> String {
     let digit = |value: u8| char::from(b"0123456789abcdef"[usize::from(value)]);
@@ -161,7 +159,7 @@ fn write_line(out: &mut impl Write, seed: Option<u64>, input: &Input) -> io::Res
     writeln!(out, r#""answers":{}}}"#, answers(input, before, row))
 }
 
-fn write_all(out: &mut impl Write, count: u64, with_limits: bool) -> io::Result<()> {
+fn write_all(out: &mut BufWriter<StdoutLock>, count: u64, with_limits: bool) -> io::Result<()> {
     for seed in 0..count {
         write_line(out, Some(seed), &generate::input(seed))?;
     }
@@ -172,19 +170,5 @@ fn write_all(out: &mut impl Write, count: u64, with_limits: bool) -> io::Result<
 }
 
 fn main() -> ExitCode {
-    let words: Vec<_> = std::env::args_os().skip(1).map(|word| word.to_string_lossy().into_owned()).collect();
-    let (flags, counts): (Vec<_>, Vec<_>) = words.iter().partition(|word| *word == "--limits");
-    let count = if let [count] = counts.as_slice() { count.parse().ok() } else { None };
-    let Some(count) = count else {
-        let _ = writeln!(io::stderr(), "usage: answers [--limits] COUNT");
-        return ExitCode::from(USAGE);
-    };
-    match write_all(&mut BufWriter::new(io::stdout().lock()), count, !flags.is_empty()) {
-        Ok(()) => ExitCode::SUCCESS,
-        Err(error) if error.kind() == ErrorKind::BrokenPipe => ExitCode::from(PIPE_CLOSED),
-        Err(error) => {
-            let _ = writeln!(io::stderr(), "answers: cannot write to standard output: {error}");
-            ExitCode::from(FAILED)
-        }
-    }
+    counted::run("answers", "--limits", write_all)
 }

@@ -1,3 +1,3 @@
 pub mod Loop
 pub mod Start
-pub mod Walked
+pub mod Recounting
