@@ -13,6 +13,7 @@ use Rattle.mdp.specs.Kinds.{Kind}
 use Rattle.mdp.proofs.SumLaws.{sum-eq, sum-more}
 use Rattle.expressions.specs.Meaning.{State}
 use Rattle.model.specs.Model.{Model}
+use Rattle.graph.specs.Limits.{leastBytes}
 use Rattle.graph.specs.Simulation.{nodeSize}
 use Rattle.building.specs.First.{put}
 use Rattle.building.specs.Building.{Building, births, offspring, ifExpanded}
@@ -71,11 +72,11 @@ module _ (M : Model) (B : Building) (n : ℕ) where
 
     pub length-becoming : graphLength M (becoming n κ c B) ≡ graphLength M B
     unfolding graphLength
-    length-becoming = ap (λ (x : ℕ). 16 + nodeSize (M .variables) * B .nodes + x) (edges-becoming (B .nodes))
+    length-becoming = ap (λ (x : ℕ). leastBytes + nodeSize (M .variables) * B .nodes + x) (edges-becoming (B .nodes))
 
   pub length-tracking : (t : ℕ) → graphLength M (tracking n t B) ≡ graphLength M B
   unfolding graphLength
-  length-tracking t = ap (λ (x : ℕ). 16 + nodeSize (M .variables) * B .nodes + x) (edges-tracking t (B .nodes))
+  length-tracking t = ap (λ (x : ℕ). leastBytes + nodeSize (M .variables) * B .nodes + x) (edges-tracking t (B .nodes))
 
   pub waiting-becoming : (κ : Kind) (c : ℕ) → n < B .nodes → waitingCount (becoming n κ c B) + ifWaiting (B .kind n) ≡ waitingCount B + ifWaiting κ
   unfolding waitingCount

@@ -1,4 +1,3 @@
-pub mod Counted
 pub mod Lowest
 pub mod Settling
 pub mod Opening

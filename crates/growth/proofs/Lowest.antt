@@ -2,7 +2,7 @@
 -- Assumes nothing.
 use Prim.Native.Nat.{ℕ, _<_, _≤_}
 use mathlib.Core.Path.{_≡_, refl, sym, ap, _∙_}
-use mathlib.Core.Bool.{true, false, not, false≢true}
+use mathlib.Core.Bool.{true, false, not, false≢true, _&&_}
 use mathlib.Core.Option.{Option, none, some}
 use mathlib.Core.List.{List}
 use native.Mathlib.Decide.{decLt}
@@ -17,7 +17,7 @@ use Rattle.model.specs.Limits.{mostVariables}
 use Rattle.model.specs.Model.{modelOf}
 use Rattle.graph.specs.Limits.{mostNodes}
 use Rattle.building.specs.First.{_orelse_, given, onward}
-use Rattle.building.specs.Building.{Building}
+use Rattle.building.specs.Building.{Building, isOpen}
 use Rattle.building.specs.Length.{waitingCount}
 use Rattle.building.specs.Moves.{Move, coverBy, Limit, waits, canCover, lowestWaiting, lowestCover, opening, growth}
 use Rattle.building.specs.Working.{HintRight, NextRight}
@@ -26,8 +26,12 @@ use Rattle.building.proofs.Counting.{none-waits, one-of-them}
 use Rattle.held.specs.Held.{heldIn}
 use Rattle.wants.specs.Standing.{hintIn, Held}
 use Rattle.covers.specs.Covers.{isWaiting, canCoverIn, waitsIn, hintAt, SomeWaits, LowestWaits}
-use Rattle.repairs.proofs.Linked.{kind-here}
-use Rattle.growth.proofs.Counted.{can-here}
+use Rattle.repairs.proofs.Linked.{kind-here, contains-here}
+
+-- Node k can cover node n, by the records.
+can-here : (m : List ℕ) (nodes : ℕ) (nb : List ℕ) (n : ℕ) → n < nodes → (k : ℕ) → k < nodes → canCover (modelOf m) (heldIn m nodes nb) n k ≡ canCoverIn (variableCount m) nb n k
+unfolding canCoverIn
+can-here m nodes nb n l k h = λ i. isOpen (kind-here m nodes nb k h i) && contains-here m nodes nb n l k h i
 
 -- ---- kinds that wait
 kind-waits : (κ : Kind) (n : ℕ) → isWaiting κ ≡ true → waits κ n ≡ some n

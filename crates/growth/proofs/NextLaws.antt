@@ -1,12 +1,11 @@
 -- The next move: a repair that is found, or what becomes of the lowest node that waits; and what either leaves.
 -- Assumes nothing.
-use Prim.Native.Nat.{ℕ, zero, suc, _<_, _≤_}
+use Prim.Native.Nat.{ℕ, _<_, _≤_}
 use mathlib.Core.Path.{_≡_, refl, sym, ap, _∙_, subst}
 use mathlib.Core.Logic.{_⊎_, inl, inr}
 use mathlib.Core.Bool.{Bool, true, false, false≢true}
 use mathlib.Core.Option.{Option, none, some}
 use mathlib.Core.List.{List}
-use native.Mathlib.Nat.{le-step, le-refl}
 use native.Mathlib.Omega.{arith}
 use lib.ListN.{length}
 use Rattle.mdp.specs.Kinds.{Kind}
@@ -21,7 +20,7 @@ use Rattle.building.specs.Length.{graphLength, waitingCount}
 use Rattle.building.specs.Moves.{Limit, Move, track, adopt, drop, coverBy, reach, expand, truthWants, expandedWants, covered, adopted, repairAs, repair, waits, lowestWaiting, lowestCover, room, opening, growth, nextMove}
 use Rattle.building.specs.Kept.{Kept, Mended}
 use Rattle.building.specs.Working.{ReadRight, ParentRight, Settled, HintRight, MarkRight, NextRight}
-use Rattle.building.proofs.FirstLaws.{nothing, orelse-some, given-some, first-none, first-some, onward-some}
+use Rattle.building.proofs.FirstLaws.{nothing, orelse-some, given-some, first-none, first-least, first-some, onward-some}
 use Rattle.put.proofs.PutLaws.{stays-both}
 use Rattle.held.specs.Held.{parentField, readField, hintField, heldIn}
 use Rattle.nodes.proofs.Expanded.{variables-some}
@@ -41,22 +40,6 @@ there-some (some a) h = (a, refl)
 there-none : {A : Type 0} (o : Option A) → there o ≡ false → o ≡ none
 there-none none h = refl
 there-none (some a) h = absurd (false≢true (sym h))
-
--- The lowest place that has one.
-module _ {A : Type 0} where
-  abbrev pub Lowest : ℕ → (ℕ → Option A) → A → Type 0
-  Lowest n f a = (i : ℕ) × (i < n) × (f i ≡ some a) × ((j : ℕ) → j < i → f j ≡ none)
-
-  pub first-lowest : (n : ℕ) (f : ℕ → Option A) (a : A) → first n f ≡ some a → Lowest n f a
-  unfolding first _orelse_
-  first-lowest zero f a e = nothing e
-  first-lowest (suc n) f a e = go (λ h. first-lowest n f a h) (first n f) refl e
-    where
-      go : (first n f ≡ some a → Lowest n f a) → (o : Option A) → first n f ≡ o → (o orelse f n) ≡ some a → Lowest (suc n) f a
-      go below none q h = (n, le-refl (suc n), h, first-none n f q)
-      go below (some b) q h =
-          let p = below (q ∙ h) in
-          (p .0, le-step (p .1), p .2, p .3)
 
 -- ---- which moves repair node n, and which grow it
 module _ (T : Move → Type 0) {mv : Move} (n : ℕ) where
@@ -110,9 +93,9 @@ waits-own Kind.target n k e = nothing e
 pub next-right : (M : Model) (B : Building) (n : ℕ) → lowestWaiting M B ≡ some n → NextRight M B n
 unfolding lowestWaiting
 next-right M B n e =
-    let p = first-lowest (B .nodes) (λ i. waits (B .kind i) i) n e in
-    let q = waits-own (B .kind (p .0)) (p .0) n (p .2) in
-    record { is = λ i l x k. waits-so (B .kind i) i k (p .3 i (subst (λ (j : ℕ). i < j) (sym q) x)) }
+    let p = first-least (B .nodes) (λ i. waits (B .kind i) i) n e in
+    let q = waits-own (B .kind (p .place)) (p .place) n (p .is) in
+    record { is = λ i l x k. waits-so (B .kind i) i k (p .before i (subst (λ (j : ℕ). i < j) (sym q) x)) }
 
 -- ---- what stands where the graph is the same
 module _ {m : List ℕ} {old new : List ℕ} where

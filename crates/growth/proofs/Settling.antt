@@ -26,7 +26,7 @@ use Rattle.covers.specs.Covers.{agreesIn, hintAt, loweredHint, Lowered}
 use Rattle.work.specs.declared.Work.{Work}
 use Rattle.work.specs.Working.{graphIn}
 use Rattle.growth.specs.Hints.{HintsSettled}
-use Rattle.growth.proofs.Counted.{contains-here}
+use Rattle.repairs.proofs.Linked.{contains-here}
 
 -- A hint is lowered by the node opened last, or stands.
 lowered-low : (vars : ℕ) (nb : List ℕ) (n i : ℕ) → loweredHint vars nb n i ≤ hintAt vars nb i

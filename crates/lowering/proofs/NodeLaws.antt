@@ -1,7 +1,6 @@
--- A node of an accepted graph, as the code reads it: its edges are ready, it is set to the definition's value, which is at
--- most certainty, and the next node's edges start where its own end.
+-- A node of an accepted graph, as the code reads it: it is set to the definition's value, which is at most certainty.
 -- Assumes nothing.
-use Prim.Native.Nat.{ℕ, _+_, _*_, _≤_, _<_}
+use Prim.Native.Nat.{ℕ, _≤_, _<_}
 use native.Mathlib.Decide.{ℕ-discrete}
 use native.Mathlib.Omega.{arith}
 use mathlib.Core.Path.{_≡_, refl, sym, _∙_}
@@ -13,16 +12,15 @@ use lib.ListN.{getD}
 use Rattle.mdp.specs.Sums.{greatest, roundedUp}
 use Rattle.mdp.specs.Graph.{along}
 use Rattle.folder.specs.Pick.{pick}
-use Rattle.folder.specs.Contents.{body, field}
+use Rattle.folder.specs.Contents.{field}
 use Rattle.folder.proofs.PickLaws.{pick-all}
-use Rattle.model.specs.Layout.{variableCount}
 use Rattle.model.specs.Model.{Model, modelOf}
 use Rattle.model.specs.Chances.{mdp}
 use Rattle.graph.specs.Limits.{units}
-use Rattle.graph.specs.Simulation.{Simulation, nodeSize, simulationOf, graph}
+use Rattle.graph.specs.Simulation.{Simulation, simulationOf, graph}
 use Rattle.graph.specs.Valid.{Valid}
 use Rattle.graph.specs.Walks.{startsAt}
-use Rattle.sums.specs.Edges.{after, EdgesReady, bestOf}
+use Rattle.sums.specs.Edges.{bestOf}
 use Rattle.sums.specs.Tables.{Tables, Round}
 use Rattle.sums.proofs.EdgeLaws.{up-small}
 use Rattle.sums.proofs.ModelLaws.{best-is, best-small}

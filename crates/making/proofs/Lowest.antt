@@ -1,39 +1,19 @@
 -- A node that is covered next is covered by the lowest that can cover it.
 -- Assumes nothing.
-use Prim.Native.Nat.{ℕ, zero, suc, _<_}
+use Prim.Native.Nat.{ℕ, _<_}
 use mathlib.Core.Path.{_≡_, refl, sym, ap, _∙_}
 use mathlib.Core.Logic.{⊎-elim}
 use mathlib.Core.Bool.{Bool, true, false}
-use mathlib.Core.Option.{Option, none, some}
-use native.Mathlib.Nat.{le-step, le-refl}
+use mathlib.Core.Option.{none, some}
 use native.Mathlib.Omega.{arith}
 use Rattle.folder.specs.Pick.{pick}
 use Rattle.expressions.specs.Meaning.{truthIn}
 use Rattle.model.specs.Model.{Model}
-use Rattle.building.specs.First.{_orelse_, given, onward, first}
+use Rattle.building.specs.First.{given, onward, first}
 use Rattle.building.specs.Building.{Building}
 use Rattle.building.specs.Moves.{Limit, coverBy, reach, expand, repair, room, canCover, lowestWaiting, lowestCover, opening, growth, nextMove}
 use Rattle.building.specs.Kept.{Mended}
-use Rattle.building.proofs.FirstLaws.{nothing, orelse-some, onward-some, first-none, first-some, given-some}
-
--- The first that there is, with nothing before it.
-pub record Least {A : Type 0} (n : ℕ) (f : ℕ → Option A) (a : A) : Type 0 where
-  pub place : ℕ
-  pub within : place < n
-  pub is : f place ≡ some a
-  pub before : (j : ℕ) → j < place → f j ≡ none
-
-module _ {A : Type 0} (f : ℕ → Option A) where
-  pub first-least : (n : ℕ) (a : A) → first n f ≡ some a → Least n f a
-  unfolding first _orelse_
-  first-least zero a e = nothing e
-  first-least (suc n) a e = go (first n f) refl e (λ h. first-least n a h)
-    where
-      go : (o : Option A) → first n f ≡ o → (o orelse f n) ≡ some a → (first n f ≡ some a → Least n f a) → Least (suc n) f a
-      go none q e below = record { place = n; within = le-refl (suc n); is = e; before = first-none n f q }
-      go (some b) q e below =
-          let p = below (q ∙ e) in
-          record { place = p .place; within = le-step (p .within); is = p .is; before = p .before }
+use Rattle.building.proofs.FirstLaws.{nothing, orelse-some, onward-some, first-least, first-some, given-some}
 
 given-least : {A : Type 0} (b : Bool) (a : A) → given b (some a) ≡ none → b ≡ false
 unfolding given
@@ -44,7 +24,7 @@ module _ (M : Model) (P : Limit) (B : Building) (n c : ℕ) where
   lowest-covers : lowestCover M B n ≡ some c → (d : ℕ) → d < c → canCover M B n d ≡ false
   unfolding lowestCover
   lowest-covers e d l =
-      let p = first-least (λ k. given (canCover M B n k) (some k)) (B .nodes) c e in
+      let p = first-least (B .nodes) (λ k. given (canCover M B n k) (some k)) c e in
       let q : p .place ≡ c = cc (given-some (canCover M B n (p .place)) (some (p .place)) c (p .is) .1) in
       given-least (canCover M B n d) d (p .before d (omega arith))
 

@@ -37,7 +37,7 @@ use Rattle.nodes.specs.declared.Move.the-variants.{Nothing}
 use Rattle.wants.specs.Standing.{readIn, parentIn, hintIn, rowIn}
 use Rattle.work.specs.Working.{limitOf, graphIn, Ready, Made}
 use Rattle.work.specs.declared.Work.{Work}
-use Rattle.making.specs.Marking.{Counted}
+use Rattle.making.specs.Marking.{Present}
 
 -- ---- bytes that stay
 pub stays-wide : {a b c : ℕ} {old new : List ℕ} → b ≤ c → Stays a b old new → Stays 0 c old new
@@ -146,8 +146,8 @@ module _ {m : List ℕ} {longest : ℕ} {w : Work} {nb marks reaches begins : Li
     pub one-waits : B .kind n ≡ Kind.waiting → 1 ≤ w .waiting
     one-waits k = some-waits M B (R .counts) n l k
 
-    pub counted : {vars : ℕ} → vars ≡ variableCount m → vars ≤ mostVariables → Counted vars w nb marks n
-    counted e v = record { variables = v; within = l; few = keeps .few; whole = record-there e; marks-long = R .rows .0 }
+    pub present : {vars : ℕ} → vars ≡ variableCount m → vars ≤ mostVariables → Present vars w nb marks n
+    present e v = record { variables = v; within = l; few = keeps .few; whole = record-there e; marks-long = R .rows .0 }
 
   after-kept : Kept M mostNodes (apply M mv B)
   after-kept = kept M P (valid .model) B keeps mv apt

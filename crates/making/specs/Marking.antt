@@ -30,8 +30,8 @@ pub record MarkedReach (vars : ℕ) (nb : List ℕ) (n parent end : ℕ) (old ne
   pub unmarked : (k : ℕ) → getD new k 0 ≡ 0 → (getD old k 0 ≡ 0) × (k ≡ n → ⊥) × (k ≡ parent → ⊥) × (k < end → isUnder vars nb n k ≡ false)
   pub same : (k : ℕ) → (k ≡ n → ⊥) → (k ≡ parent → ⊥) → end ≤ k → getD new k 0 ≡ getD old k 0
 
--- Node n is counted; its record and its mark are there.
-pub record Counted (vars : ℕ) (w : Work) (nb marks : List ℕ) (n : ℕ) : Type 0 where
+-- Node n is there, with its record and its mark.
+pub record Present (vars : ℕ) (w : Work) (nb marks : List ℕ) (n : ℕ) : Type 0 where
   pub variables : vars ≤ mostVariables
   pub within : n < w .nodes
   pub few : w .nodes ≤ mostNodes

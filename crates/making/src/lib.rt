@@ -26,7 +26,7 @@ ghost use Rattle.held.specs.Held.{stateField, putIn, becomeIn};
 ghost use Rattle.nodes.specs.Told.{told};
 ghost use Rattle.wants.specs.Standing.{parentIn, rowIn};
 ghost use Rattle.work.specs.Working.{Ready, Made, grownWork, droppedWork, labelledWork};
-ghost use Rattle.making.specs.Marking.{isUnder, markIf, markUnder, MarkedReach, Counted};
+ghost use Rattle.making.specs.Marking.{isUnder, markIf, markUnder, MarkedReach, Present};
 
 // Node i is covered by node n.
 fn is_under(vars: usize, nb: &[u8], n: usize, i: usize) -> bool
@@ -104,7 +104,7 @@ fn grow_label(m: &[u8], nb: &[u8], marks: &mut [u8], reaches: &[u16], w: Work, n
 
 // Node n's cover is dropped, and it waits again.
 fn make_drop(vars: usize, nb: &mut [u8], marks: &mut [u8], w: Work, n: usize) -> Work
-    requires { ⌜ Counted vars w (now nb) (now marks) n ⌝ }
+    requires { ⌜ Present vars w (now nb) (now marks) n ⌝ }
     requires { ⌜ w .waiting ≤ w .nodes ⌝ }
     ensures { λ r. ⌜ r ≡ droppedWork w n ⌝ }
     ensures { λ _. ⌜ now (nb .exit) ≡ becomeIn vars (now (nb .entry)) n 0 0 ⌝ }
@@ -133,7 +133,7 @@ fn make_cover(
     n: usize,
     c: usize,
 ) -> Work
-    requires { ⌜ Counted vars w (now nb) (now marks) n ⌝ }
+    requires { ⌜ Present vars w (now nb) (now marks) n ⌝ }
     requires { ⌜ (0 < vars) × (c < w .nodes) × (mostNodes ≤ length (now reaches)) × (1 ≤ w .waiting) ⌝ }
     ensures { λ r. ⌜ r ≡ grownWork (w .nodes) (w .len) mostNodes (w .waiting - 1) n ⌝ }
     ensures { λ _. ⌜ now (nb .exit) ≡ putIn vars (becomeIn vars (now (nb .entry)) n 2 c) n (stateField + vars) c ⌝ }
@@ -149,7 +149,7 @@ fn make_cover(
 
 // Node n becomes a target.
 fn make_target(vars: usize, nb: &mut [u8], marks: &mut [u8], w: Work, n: usize) -> Work
-    requires { ⌜ Counted vars w (now nb) (now marks) n ⌝ }
+    requires { ⌜ Present vars w (now nb) (now marks) n ⌝ }
     requires { ⌜ 1 ≤ w .waiting ⌝ }
     ensures { λ r. ⌜ r ≡ grownWork (w .nodes) (w .len) n (w .waiting - 1) n ⌝ }
     ensures { λ _. ⌜ now (nb .exit) ≡ becomeIn vars (now (nb .entry)) n 3 0 ⌝ }

@@ -164,10 +164,11 @@ agrees-here m nb k n =
     (bad-same (λ v. implies (hasBit (setIn m nb k) v) (eqZ (valueOf (stateIn m nb k) v) (valueOf (stateIn m nb n) v))) (sameAt (variableCount m) nb k n) (variableCount m)
     (λ v l. λ i. implies (hasBit (setIn m nb k) v) (eqZ (value-here m nb k v l i) (value-here m nb n v l i))))
 
-module _ {m : List ℕ} {nodes : ℕ} {nb : List ℕ} (H : Held m nodes nb) {n : ℕ} (l : n < nodes) where
-  pub contains-here : (k : ℕ) → k < nodes → contains (modelOf m) (heldIn m nodes nb) k (heldIn m nodes nb .state n) ≡ agreesIn (variableCount m) nb k n
-  contains-here k h = (λ i. agrees (modelOf m) (set-here m nodes nb k h i) (state-here m nodes nb k h i) (state-here m nodes nb n l i)) ∙ agrees-here m nb k n
+-- Node k's label contains node n's state.
+pub contains-here : (m : List ℕ) (nodes : ℕ) (nb : List ℕ) (n : ℕ) → n < nodes → (k : ℕ) → k < nodes → contains (modelOf m) (heldIn m nodes nb) k (heldIn m nodes nb .state n) ≡ agreesIn (variableCount m) nb k n
+contains-here m nodes nb n l k h = (λ i. agrees (modelOf m) (set-here m nodes nb k h i) (state-here m nodes nb k h i) (state-here m nodes nb n l i)) ∙ agrees-here m nb k n
 
+module _ {m : List ℕ} {nodes : ℕ} {nb : List ℕ} (H : Held m nodes nb) {n : ℕ} (l : n < nodes) where
   module _ (k : heldIn m nodes nb .kind n ≡ Kind.covered) where
     pub cover-within : nodeIn m nb n coverField < nodes
     cover-within = subst (λ (c : ℕ). c < nodes) (cover-here m nodes nb n l) (H .kept .covers n l k .there)
@@ -175,7 +176,7 @@ module _ {m : List ℕ} {nodes : ℕ} {nb : List ℕ} (H : Held m nodes nb) {n :
     pub covered-here : covered (modelOf m) (heldIn m nodes nb) n ≡ agreesIn (variableCount m) nb (nodeIn m nb n coverField) n
     covered-here =
         ap (λ (c : ℕ). contains (modelOf m) (heldIn m nodes nb) c (heldIn m nodes nb .state n)) (cover-here m nodes nb n l)
-        ∙ contains-here (nodeIn m nb n coverField) cover-within
+        ∙ contains-here m nodes nb n l (nodeIn m nb n coverField) cover-within
 
     pub adopted-here : adopted (modelOf m) (heldIn m nodes nb) n ≡ adoptedIn (variableCount m) nb n
     unfolding adopted

@@ -1,7 +1,6 @@
--- A node of an accepted graph, as the code reads it: its edges are ready, its figure is the definition's, and the next
--- node's edges start where its own end.
+-- A node of an accepted graph, as the code reads it: its figure is the definition's.
 -- Assumes nothing.
-use Prim.Native.Nat.{ℕ, _+_, _*_, _≤_, _<_}
+use Prim.Native.Nat.{ℕ, _<_}
 use native.Mathlib.Omega.{arith}
 use mathlib.Core.Path.{_≡_, refl, sym, _∙_}
 use mathlib.Core.List.{List}
@@ -9,12 +8,11 @@ use Rattle.folder.specs.Contents.{body, countOf, field}
 use Rattle.model.specs.Layout.{variableCount}
 use Rattle.model.specs.Model.{Model, modelOf}
 use Rattle.model.proofs.Limits.{limits}
-use Rattle.graph.specs.Limits.{units}
 use Rattle.graph.specs.Simulation.{Simulation, nodeSize, simulationOf}
 use Rattle.graph.specs.Valid.{Valid}
 use Rattle.graph.specs.Walks.{startsAt}
-use Rattle.sums.specs.Edges.{after, EdgesReady, bestOf}
-use Rattle.sums.specs.Tables.{Tables, Round, figureBy}
+use Rattle.sums.specs.Edges.{bestOf}
+use Rattle.sums.specs.Tables.{Tables, figureBy}
 use Rattle.rounds.specs.Rounds.{ownNext, nodesOf, Shaped}
 use Rattle.sums.proofs.ModelLaws.{best-is}
 use Rattle.sums.proofs.NodeLaws.{Parts}

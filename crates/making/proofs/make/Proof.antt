@@ -5,7 +5,7 @@ use Rattle.building.specs.Moves.{Move, track, adopt, drop, coverBy, reach}
 use Rattle.building.proofs.Counting.{waiting-few}
 use Rattle.held.specs.Held.{stateField, putIn, becomeIn}
 use Rattle.nodes.proofs.Expanded.{variables-some}
-use Rattle.making.proofs.Moving.{valid, told-of, in-field, record-there, counted, one-waits, made-as, ready-by, made-by, nothing-told}
+use Rattle.making.proofs.Moving.{valid, told-of, in-field, record-there, present, one-waits, made-as, ready-by, made-by, nothing-told}
 use Rattle.making.proofs.Becoming.{dropped, targeted, covered}
 use Rattle.making.proofs.Tracking.{may-mark, tracked-is, track-grown, adopted-is, adopt-grown}
 use borrow.Author.Needs.{needs}
@@ -49,7 +49,7 @@ make-drop-requires : tie.Need-make-drop-requires
 make-drop-requires c κs =
     let R = ready-by (c .before .before .before .mv3 .given .1) (c .before .before .before .before .before .before .before .before .before .before .before .pre .0) in
     let mv : Move = drop (c .before .before .before .mv3 .given .0 .0) in
-    (counted mv R (told-of mv R .0) (c .before .before .before .before .before .variable-count .ensures .0) (c .before .before .before .before .before .variable-count .ensures .1), waiting-few (R .counts))
+    (present mv R (told-of mv R .0) (c .before .before .before .before .before .variable-count .ensures .0) (c .before .before .before .before .before .variable-count .ensures .1), waiting-few (R .counts))
 
 make-cover-requires : tie.Need-make-cover-requires
 make-cover-requires c κs =
@@ -57,14 +57,14 @@ make-cover-requires c κs =
     let mv : Move = coverBy (c .before .before .before .before .mv4 .given .0 .0) (c .before .before .before .before .mv4 .given .0 .1 .0) in
     let g = told-of mv R in
     let v = c .before .before .before .before .before .before .variable-count .ensures in
-    (counted mv R (g .0) (v .0) (v .1), (omega (arith, v .0, variables-some (valid mv R)), g .2, R .rows .1, one-waits mv R (g .0) (g .1)))
+    (present mv R (g .0) (v .0) (v .1), (omega (arith, v .0, variables-some (valid mv R)), g .2, R .rows .1, one-waits mv R (g .0) (g .1)))
 
 make-target-requires : tie.Need-make-target-requires
 make-target-requires c κs =
     let R = ready-by (c .before .before .before .mv5 .given .1) (c .before .before .before .before .before .before .before .before .before .before .before .pre .0) in
     let mv : Move = reach (c .before .before .before .mv5 .given .0 .0) in
     let g = told-of mv R in
-    (counted mv R (g .0) (c .before .before .before .before .before .variable-count .ensures .0) (c .before .before .before .before .before .variable-count .ensures .1), one-waits mv R (g .0) (g .1))
+    (present mv R (g .0) (c .before .before .before .before .before .variable-count .ensures .0) (c .before .before .before .before .before .variable-count .ensures .1), one-waits mv R (g .0) (g .1))
 
 make-expanded-requires : tie.Need-make-expanded-requires
 make-expanded-requires c κs = ready-by (c .before .before .before .before .before .mv6 .given .1) (c .before .before .before .before .before .before .before .before .before .before .before .before .before .pre .0)
