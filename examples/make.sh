@@ -12,7 +12,6 @@ examples='
 pedal                    pedal/pedal.model
 scan_loop                scan_loop/scan.model
 mixer                    mixer/mixer.model
-unfinished               scan_loop/scan.model
 explored_twice           pedal/pedal.model
 refused_19               pedal/pedal.model
 refused_20               pedal/pedal.model

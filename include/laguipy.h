@@ -10,21 +10,21 @@
  *
  * - pass a slice as a pointer and a count of elements, which may be 0. No pointer is NULL, not even that of an empty
  *   slice, and each is aligned for its elements: folders and out need no alignment, rows that of uint32_t, uint16_t or
- *   int16_t, numbers (place, *listed, *length, values, part) that of size_t, ends that of double.
- * - keep whatever is written to (rows, out, place, *listed, *length, values, part, ends) apart from all else that is
- *   passed. What is only read may overlap: the same bytes may be passed as model and graph.
+ *   int16_t, numbers (place, *listed, *length, values, part) that of size_t.
+ * - keep whatever is written to (rows, out, place, *listed, *length, values, part) apart from all else that is passed.
+ *   What is only read may overlap: the same bytes may be passed as model and graph.
  * - see to it that, during the call, nobody else writes to what is passed or reads what is written to.
  * - have LAGUIPY_STACK_BYTES of stack left.
  *
  * It, on every call, whatever the bytes and the lengths are:
  *
  * - returns 0 for acceptance, else the number of the refusal, 1 to 35. Only laguipy_record_part returns nothing.
- * - writes place, *listed, *length, values, part and ends, refused or not. place[0] is where a rule is broken: a node,
- *   a command, an entry and so on, as docs/REFUSALS.md says for each refusal. place[1] is a variable: for 19 the lowest
+ * - writes place, *listed, *length, values and part, refused or not. place[0] is where a rule is broken: a node, a
+ *   command, an entry and so on, as docs/REFUSALS.md says for each refusal. place[1] is a variable: for 19 the lowest
  *   that the unknown guard or target mentions and the node does not track, for 21 the assigned one that does not lead
  *   to the successor's label, for both LAGUIPY_NO_VARIABLE if it is another fault. It is 0 for all other refusals.
  *   Accepted, both are 0.
- * - leaves the rows (first to fourth, slots, answers, listing, result) and out as they were when it refuses.
+ * - leaves the rows (first, second, slots, answers, listing, result) and out as they were when it refuses.
  * - ends, allocates nothing, frees nothing, keeps no pointer, reads and writes no file, and has no state: calls on
  *   different rows may run in any number of threads at once.
  *
@@ -63,7 +63,7 @@ extern "C" {
 #define LAGUIPY_MODEL_BYTES 40000
 #define LAGUIPY_GRAPH_BYTES 1048576
 
-/* Stack that is enough for any call; the builder and the index use most of it. */
+/* Stack that is enough for any call; the index and the figure calls use most of it. */
 #define LAGUIPY_STACK_BYTES 65536
 
 /* The elements of `values` of laguipy_graph_check: the root value in units, and the nodes of each kind. */
@@ -94,9 +94,9 @@ size_t laguipy_graph_check(const uint8_t *model, size_t model_len, const uint8_t
                            size_t place[2], size_t values[LAGUIPY_VALUES]);
 
 /*
- * What a figure call on these arguments answers: the graph check's refusal, then 26 (a node waits: laguipy_ends takes
- * such graphs too), 27 (h over LAGUIPY_MOST_STEPS), 28 (a row is shorter than the nodes). The rows are neither read nor
- * written: only their lengths count.
+ * What a figure call on these arguments answers: the graph check's refusal, then 26 (a node waits), 27 (h over
+ * LAGUIPY_MOST_STEPS), 28 (a row is shorter than the nodes). The rows are neither read nor written: only their lengths
+ * count.
  */
 size_t laguipy_figure_refusal(const uint8_t *model, size_t model_len, const uint8_t *graph, size_t graph_len, size_t h,
                               const uint32_t *first, size_t first_len, const uint32_t *second, size_t second_len,
@@ -117,27 +117,6 @@ size_t laguipy_figure_rows(const uint8_t *model, size_t model_len, const uint8_t
 size_t laguipy_figure(const uint8_t *model, size_t model_len, const uint8_t *graph, size_t graph_len, size_t h,
                       uint32_t *first, size_t first_len, uint32_t *second, size_t second_len, size_t place[2],
                       size_t part[2]);
-
-/*
- * The two ends of the root's figure for h steps, of any graph that laguipy_graph_check accepts, waiting nodes or not:
- * ends[0] is the low one, ends[1] the high one. They come of two kinds of rounds:
- *
- * - Upper rounds count a waiting node as certainty and round up. They stand in the first and the second row as
- *   laguipy_figure_rows has them, and are that call's where no node waits. The root's is at most the root value.
- * - Lower rounds count a waiting node as 0 and round down. They stand in the third and the fourth row, the third like
- *   the first and the fourth like the second.
- *
- * The best chance to reach a target within h steps, from a node's concrete state, lies between the node's lower and its
- * upper figure; with no node waiting, these are at most 2 * h units apart. That is so of the units, which stand in the
- * rows. Each end is the root's units divided by LAGUIPY_CERTAIN and rounded once, so that 0 units are exactly 0.0 and
- * LAGUIPY_CERTAIN units exactly 1.0.
- *
- * Elements past the node count stay. Refused, by the graph check, with 27 (h over LAGUIPY_MOST_STEPS) or with 28 (a row
- * is shorter than the nodes: place 0 first, 1 second, 2 third, 3 fourth), both ends are 0.0 and all four rows stay.
- */
-size_t laguipy_ends(const uint8_t *model, size_t model_len, const uint8_t *graph, size_t graph_len, size_t h,
-                    uint32_t *first, size_t first_len, uint32_t *second, size_t second_len, uint32_t *third,
-                    size_t third_len, uint32_t *fourth, size_t fourth_len, size_t place[2], double ends[2]);
 
 /*
  * The index of the nodes by their concrete states. Three rows are filled:

@@ -130,7 +130,7 @@ packages() {
   cp build/lib/liblaguipy.a "$room/lib/"
   ends 0 cargo_with "$room/lib" bindings/rust package --allow-dirty
   ends 0 cargo_with "$room/lib" "$packaged" test --doc
-  grep -q '^test result: ok. 4 passed' "$out" || fail "the examples of the crate's docs should be tested"
+  grep -q '^test result: ok. 3 passed' "$out" || fail "the examples of the crate's docs should be tested"
   ends 0 cargo_with "$room/lib" "$packaged" run --example check -- "$packaged"/examples/pedal/{model,graph}.fold
   prints "$(cat examples/pedal/expected.txt)"
 }

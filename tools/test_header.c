@@ -1,7 +1,7 @@
 /*
  * Tests include/laguipy.h as C and as C++, on the pedal example: number and both places of every refusal of every call,
- * the index, the builder and the ends, with every row and the slice at exit, and how much stack each call uses, which
- * it prints. It exits with 0 if all is as the header says.
+ * the index and the builder, with every row and the slice at exit, and how much stack each call uses, which it prints.
+ * It exits with 0 if all is as the header says.
  *
  *   target/test_header examples/pedal/model.fold examples/pedal/graph.fold
  */
@@ -159,19 +159,6 @@ static void call_figure(void) {
                             part);
 }
 
-/* The rows of the ends, which are longer than they need be. */
-#define LONGER (NODES + 1)
-static uint32_t ends_rows[4][LONGER];
-static size_t ends_len[4] = {LONGER, LONGER, LONGER, LONGER};
-static double ends[2];
-
-static void call_ends(void) {
-    uint32_t(*row)[LONGER] = ends_rows;
-    ends[0] = ends[1] = FILL;
-    number = laguipy_ends(model, model_len, graph, graph_len, steps, row[0], ends_len[0], row[1], ends_len[1], row[2],
-                          ends_len[2], row[3], ends_len[3], unset(), ends);
-}
-
 static void take_step(const int16_t *state, size_t state_len, size_t command, size_t branch) {
     int16_t result[2];
     number = laguipy_step(model, model_len, state, state_len, command, branch, result, 2, unset());
@@ -209,7 +196,6 @@ static const struct {
     {"laguipy_figure_refusal", call_refusal, 26},
     {"laguipy_figure_rows", call_rows, 26},
     {"laguipy_figure", call_figure, 26},
-    {"laguipy_ends", call_ends, 25},
     {"laguipy_step", call_step, 11},
     {"laguipy_build", call_build, 11},
 };
@@ -388,89 +374,6 @@ static void test_build(void) {
     model_len++;
 }
 
-#define TENTH (LAGUIPY_CERTAIN / 10)
-#define HUNDREDTH (LAGUIPY_CERTAIN / 100)
-
-/* Rounds 0, 1 and 2 of the pedal, the last of which repeats; and lower rounds where its target waits. */
-static const uint32_t pedal_rounds[3][NODES] = {
-    {0, 0, 0, 0, 0, LAGUIPY_CERTAIN},
-    {0, 0, TENTH, 0, 0, LAGUIPY_CERTAIN},
-    {HUNDREDTH, 0, TENTH, HUNDREDTH, 0, LAGUIPY_CERTAIN},
-};
-static const uint32_t no_chance[NODES] = {0};
-
-/* Whether a row of the ends has these figures, and is as it was past them; or, for NULL, all through. */
-static int has(size_t row, const uint32_t *figures) {
-    for (size_t k = 0; k < NODES; k++)
-        if (ends_rows[row][k] != (figures == NULL ? FILL : figures[k]))
-            return 0;
-    return ends_rows[row][NODES] == FILL;
-}
-
-static void call_ends_afresh(void) {
-    for (size_t row = 0; row < 4; row++)
-        for (size_t k = 0; k < LONGER; k++)
-            ends_rows[row][k] = FILL;
-    call_ends();
-}
-
-static const uint32_t *round_of(size_t h, int chance) {
-    return chance ? pedal_rounds[h < 2 ? h : 2] : no_chance;
-}
-
-/* Whether two rows, from this one on, have round h and, in the other, the one before it. */
-static int have(size_t row, int chance) {
-    return has(row + steps % 2, round_of(steps, chance)) &&
-           has(row + 1 - steps % 2, steps == 0 ? NULL : round_of(steps - 1, chance));
-}
-
-static void expect_ends(int chance) {
-    for (steps = 0; steps < 6; steps++) {
-        double due = steps < 2 ? 0.0 : 0.01;
-        call_ends_afresh();
-        expect(answered(0, 0, 0) && ends[0] == (chance ? due : 0.0) && ends[1] == due, "both ends");
-        expect(have(0, 1), "upper rounds");
-        expect(have(2, chance), "lower rounds");
-    }
-    steps = 3;
-}
-
-static void refused_ends(size_t as, size_t at, const char *what) {
-    call_ends_afresh();
-    expect(answered(as, at, 0) && ends[0] == 0.0 && ends[1] == 0.0, what);
-    expect(has(0, NULL) && has(1, NULL) && has(2, NULL) && has(3, NULL), "rows of the ends stay");
-}
-
-static void test_ends(void) {
-    expect_ends(1);
-    graph[NODE(5)] = 0;
-    expect_ends(0);
-    graph[NODE(5)] = 3;
-    for (size_t row = 4; row-- > 0;) {
-        ends_len[row] = NODES - 1;
-        refused_ends(28, row, "a row of the ends too short");
-    }
-    steps = LAGUIPY_MOST_STEPS + 1;
-    refused_ends(27, 0, "a step too many");
-    graph_len--;
-    refused_ends(13, 1, "the graph's refusal comes before those of the ends");
-    graph_len++;
-    for (size_t row = 0; row < 4; row++)
-        ends_len[row] = NODES;
-    steps = LAGUIPY_MOST_STEPS;
-    call_ends();
-    expect(answered(0, 0, 0) && ends[0] == 0.01 && ends[1] == 0.01, "as many steps as may be");
-    steps = 3;
-}
-
-/* A root that waits: nothing is known. */
-static void test_ends_of_a_root(void) {
-    build(0, ONE_NODE);
-    number = laguipy_ends(model, model_len, out, length, steps, ends_rows[0], 1, ends_rows[1], 1, ends_rows[2], 1,
-                          ends_rows[3], 1, unset(), ends);
-    expect(answered(0, 0, 0) && ends[0] == 0.0 && ends[1] == 1.0, "0 and certainty are exact");
-}
-
 /*
  * A stack of more than a call may take, so that one which takes more is seen to. It is volatile so that no memset
  * paints it: in a program that binds late, the first call of memset takes more stack, and the library is to make it.
@@ -535,7 +438,5 @@ int main(int words, char **word) {
     test_rows();
     test_twins();
     test_build();
-    test_ends();
-    test_ends_of_a_root();
     return wrong;
 }

@@ -17,11 +17,6 @@ units are certainty. Every call is proved to answer so, on every input; what is 
     >>> laguipy.figure(model, laguipy.build(model), 2)[0]
     10000000
 
-`ends` takes graphs that were stopped early too, in which nodes wait: the chance lies between a low and a high end.
-
-    >>> laguipy.ends(model, graph, 2)[:2]
-    (0.01, 0.01)
-
 `write_model` and `write_graph` make folders of text, `show_model` and `show_graph` text of folders.
 """
 from .errors import InputError
@@ -40,13 +35,11 @@ from .limits import (
 )
 from .models import show_model, write_model
 from .native import (
-    Ends,
     Refusal,
     Shared,
     Summary,
     build,
     build_in,
-    ends,
     figure,
     figure_refusal,
     figure_rows,
@@ -63,7 +56,6 @@ __version__ = version()
 
 __all__ = [
     "CERTAIN",
-    "Ends",
     "GRAPH_BYTES",
     "InputError",
     "MODEL_BYTES",
@@ -80,7 +72,6 @@ __all__ = [
     "Summary",
     "build",
     "build_in",
-    "ends",
     "figure",
     "figure_refusal",
     "figure_rows",

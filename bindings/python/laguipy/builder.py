@@ -223,7 +223,7 @@ def waiting_note(built):
     """What it means that nodes wait."""
     count, most = built.summary.waiting, built.asked.nodes
     told = "1 node waits and counts" if count == 1 else f"{count} nodes wait and count"
-    held = f"{told} as certainty: the root value is a bound all the same"
+    held = f"{told} as certainty: the root value is a bound all the same, and figures need a finished graph"
     if most < MOST_NODES:
         return f"{held}; building ended at --nodes {most}, and more may lower the root value"
     less = "narrower ranges, or guards and a target that mention fewer variables, take fewer"
@@ -257,19 +257,17 @@ def places(model, out):
     return ["MODEL" if model == STANDARD else model, "GRAPH" if out == STANDARD else out]
 
 
-def figures_note(built, model, out):
-    """Where better numbers are."""
-    told = f"`laguipy figures {' '.join(map(shlex.quote, places(model, out)))} 1000`"
-    if built.summary.waiting:
-        return f"{told} has two ends, and the chance within 1000 steps lies between them"
-    return f"figures do not depend on the values: {told} has the chance within 1000 steps"
+def figures_note(model, out):
+    """Where better numbers are, of a finished graph."""
+    told = " ".join(map(shlex.quote, places(model, out)))
+    return f"figures do not depend on the values: `laguipy figures {told} 1000` has the chance within 1000 steps"
 
 
 def notes(built, model, out):
     """What is worth knowing of a graph that was built of this model and stands there, a line each."""
-    root = built.summary.root
+    root, waiting = built.summary.root, built.summary.waiting
     found = [rounds_note(built) if root else None, endless_note(built) if root and built.endless else None]
     found = [note for note in found if note]
-    if built.summary.waiting:
-        found.insert(0, waiting_note(built))
-    return [*found, figures_note(built, model, out)] if found else []
+    if waiting:
+        return [waiting_note(built), *found]
+    return [*found, figures_note(model, out)] if found else []

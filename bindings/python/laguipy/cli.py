@@ -82,8 +82,7 @@ def is_option(word):
     return word.startswith("-") and word != STANDARD and not re.fullmatch("-[0-9][0-9, +-]*", word)
 
 
-def figures_asked(args):
-    """The files, the numbers of steps and the nodes for which figures are asked."""
+def run_figures(args):
     places = [word for word in args.words if not is_number(word)]
     for place in places:
         if place != STANDARD and not os.path.exists(place):
@@ -92,25 +91,17 @@ def figures_asked(args):
         raise UsageError("--json or --csv, and not both")
     steps = series.steps_of([word for word in args.words if is_number(word)], args.upto)
     ranges = series.node_ranges(args.nodes)
-    return pair_of(places, where.example), steps, ranges
-
-
-def run_figures(args):
-    pair, steps, ranges = figures_asked(args)
+    pair = pair_of(places, where.example)
     model, graph = pair.model_bytes, pair.graph_bytes
     try:
         summary = native.graph_check(model, graph)
-        figures = series.of_graph(model, graph, summary)
-        figures.refuse(steps[-1])
+        rows = native.units(summary.nodes), native.units(summary.nodes)
+        native.figure_refusal(model, graph, steps[-1], *rows)
     except native.Refusal as refusal:
         return refused(args, refusal)
-    nodes = series.nodes_of(ranges, summary.nodes)
-    notes = [] if args.quiet else figures.notes(named(pair.graph))
-    if not args.json:
-        for note in notes:
-            say(PROGRAM, note)
     kind = series.Json if args.json else series.Csv if args.csv else series.Lines
-    series.write_figures(kind(figures, nodes, figures.about(notes)), series.figures_for(figures, steps))
+    form = kind(summary.root, series.nodes_of(ranges, summary.nodes))
+    series.write_figures(form, series.figures_for(model, graph, steps))
     return DONE
 
 
@@ -303,9 +294,7 @@ def add_check(commands):
 
 
 FIGURES = """\
-Units are billionths. PLACE is as for check. Where nodes of the graph wait, there are two ends in place of a figure, and
-the chance at worst lies between them: the nodes that wait count as 0 for the low one, as certainty for the high one.
-CSV and JSON have the two as low and high, in units.
+Units are billionths. PLACE is as for check; a graph in which a node waits has no figures.
 
 Figures are written as they come, so that what is interrupted is lost in no part; JSON that is then cut short ends with
 "complete": false. Each number of steps is worked out from the start, so that --upto H takes time in the square of H, up
@@ -320,7 +309,6 @@ def add_figures(commands):
     command.add_argument("--upto", metavar="H", help="for every number of steps from 0 to H")
     command.add_argument("--nodes", default="0", metavar="all|0,3|2-5", help="of these nodes; else the root's, node 0")
     command.add_argument("--csv", action="store_true", help="as comma-separated values")
-    command.add_argument("-q", "--quiet", action="store_true", help="no remarks")
 
 
 INDEX = """\
@@ -365,7 +353,7 @@ replaced. It keeps every rule, whatever the model is: `laguipy check` accepts it
 
 Nodes start with labels that track nothing, and track what a rule asks for. Building ends when no node waits, or when
 the next expansion would give more than N nodes; nodes that wait then count as certainty, the root value is a bound all
-the same, and figures have two ends.
+the same, and there are no figures.
 
 Values start at certainty, and N rounds over the nodes lower them. A lower value moves up about one level of the graph
 in a round, and what can go on for ever counts as reaching a target, however many rounds there are. Figures do not

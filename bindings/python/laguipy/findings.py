@@ -53,9 +53,9 @@ ADVICE = {
     23: "drop the cover, and cover the node by another one or expand it",
     24: "track in this node what its cover tracks, then mend the nodes that lead here (21)",
     25: "raise the value to what is asked; then look at the nodes that lead here, and go round until nothing changes",
-    26: "explore on until no node waits, or ask for the two ends; the root value is a bound all the same",
+    26: "explore on until no node waits; the root value is a bound all the same",
     27: "ask for at most 10000 steps; the root value is a bound for any number of them",
-    28: "lend rows of at least one element per node: the place is 0 to 3 for the first to the fourth",
+    28: "lend two rows of at least one element per node",
     34: "lend 8192 slots, whole states, an answer for each of them, and a listing element for each node",
     35: "ask for at most 1000 rounds (place 1), in a slice of 28 bytes and 4 for each variable at least (place 0)",
 }

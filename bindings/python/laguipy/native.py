@@ -16,7 +16,6 @@ from typing import NamedTuple
 
 from . import where
 from .errors import counted
-from .folder import node_size
 from .limits import GRAPH_BYTES, MOST_NODES, MOST_ROUNDS, MOST_VARIABLES, SLOTS
 from .output import RunError
 
@@ -24,7 +23,6 @@ UNIT = ("I", 4)  # a row of figures: unsigned, 4 bytes
 VALUE = ("h", 2)  # a state: signed, 2 bytes
 NODE = ("H", 2)  # a row of nodes: unsigned, 2 bytes
 BYTE = ("B", 1)  # a slice for a graph
-ORDER = ("first", "second", "third", "fourth")  # of the rows of figures
 FORMATS = {"I": ("I", "L"), "h": ("h",), "H": ("H",), "B": ("B",)}
 VARIABLE_BYTES = 6  # of a variable's record in the model folder
 MOST_SIZE = 2 ** (8 * ctypes.sizeof(ctypes.c_size_t)) - 1
@@ -76,17 +74,6 @@ class Shared(NamedTuple):
     answers: memoryview
 
 
-class Ends(NamedTuple):
-    """What the ends call finds: the low and the high end of the root's chance, where 1.0 is certainty; and the figures
-    of all nodes, in units, as parts of the rows that it was lent. That the chance lies between is proved of the units.
-    """
-
-    low: float
-    high: float
-    lower: memoryview
-    upper: memoryview
-
-
 # ---- the library
 
 SIZE = ctypes.c_size_t
@@ -94,7 +81,6 @@ FOLDER = (ctypes.c_char_p, SIZE)
 ROW = (ctypes.c_void_p, SIZE)
 NUMBERS = ctypes.POINTER(SIZE)
 PLACES = SIZE * 2  # of a refusal
-BOTH_ENDS = ctypes.c_double * 2  # the low one first
 
 # include/laguipy.h: what each call takes. All return a number but the view.
 CALLS = {
@@ -104,7 +90,6 @@ CALLS = {
     "laguipy_figure_refusal": (*FOLDER, *FOLDER, SIZE, *ROW, *ROW, NUMBERS),
     "laguipy_figure_rows": (*FOLDER, *FOLDER, SIZE, *ROW, *ROW, NUMBERS),
     "laguipy_figure": (*FOLDER, *FOLDER, SIZE, *ROW, *ROW, NUMBERS, NUMBERS),
-    "laguipy_ends": (*FOLDER, *FOLDER, SIZE, *ROW, *ROW, *ROW, *ROW, NUMBERS, ctypes.POINTER(ctypes.c_double)),
     "laguipy_step": (*FOLDER, *ROW, SIZE, SIZE, *ROW, NUMBERS),
     "laguipy_index": (*FOLDER, *FOLDER, *ROW, *ROW, *ROW, *ROW, NUMBERS, NUMBERS),
     "laguipy_build": (*FOLDER, SIZE, *ROW, NUMBERS, NUMBERS),
@@ -201,9 +186,8 @@ def apart(*rows):
     return rows
 
 
-def unit_rows(*rows):
-    """Rows of figures, by their order."""
-    return apart(*(Row(row, UNIT, f"the {which} row") for which, row in zip(ORDER, rows)))
+def two_rows(first, second):
+    return apart(Row(first, UNIT, "the first row"), Row(second, UNIT, "the second row"))
 
 
 def size(number, what):
@@ -257,7 +241,7 @@ def graph_check(model, graph):
 
 def figure_refusal(model, graph, h, first, second):
     """Raises what `figure` would on these arguments; the rows are not written."""
-    places, rows = PLACES(), unit_rows(first, second)
+    places, rows = PLACES(), two_rows(first, second)
     folders = *passed(folder_bytes(model)), *passed(folder_bytes(graph))
     lent = *rows[0].arguments, *rows[1].arguments
     answered(loaded().laguipy_figure_refusal(*folders, size(h, "h"), *lent, places), places)
@@ -266,7 +250,7 @@ def figure_refusal(model, graph, h, first, second):
 def figure_rows(model, graph, h, first, second):
     """The figures for h steps, one per node: round h in the first row if h is even, else in the second, and round
     h - 1 in the other, which is untouched at h = 0. Elements past the node count stay. Refused like `figure`."""
-    places, rows = PLACES(), unit_rows(first, second)
+    places, rows = PLACES(), two_rows(first, second)
     folders = *passed(folder_bytes(model)), *passed(folder_bytes(graph))
     lent = *rows[0].arguments, *rows[1].arguments
     answered(loaded().laguipy_figure_rows(*folders, size(h, "h"), *lent, places), places)
@@ -277,37 +261,15 @@ def figure(model, graph, h, first=None, second=None):
     `figure_rows` leaves them; without rows, new ones serve.
 
     Each figure is an upper bound of the best chance, from that node's concrete state, to reach a target within h
-    steps, and at most h units above it. Refused with the graph check's refusal; then 26 where a node waits, which
-    `ends` does not mind, 27 where h is over MOST_STEPS, 28 where a row is shorter than the nodes.
+    steps, and at most h units above it. Refused with the graph check's refusal; then 26 where a node waits, 27 where
+    h is over MOST_STEPS, 28 where a row is shorter than the nodes.
     """
     held = [units(MOST_NODES) if row is None else row for row in (first, second)]
-    places, part, rows = PLACES(), (SIZE * 2)(), unit_rows(*held)
+    places, part, rows = PLACES(), (SIZE * 2)(), two_rows(*held)
     folders = *passed(folder_bytes(model)), *passed(folder_bytes(graph))
     lent = *rows[0].arguments, *rows[1].arguments
     answered(loaded().laguipy_figure(*folders, size(h, "h"), *lent, places, part), places)
     return memoryview(held[part[0]])[: part[1]]
-
-
-def ends(model, graph, h, first=None, second=None, third=None, fourth=None):
-    """The two ends of the chance within h steps, also of a graph in which nodes wait: `Ends`. Without rows, new ones
-    serve.
-
-    The best chance to reach a target within h steps, from a node's concrete state, lies between the node's lower and
-    its upper figure. Upper rounds count a waiting node as certainty and round up: they stand in the first and second
-    row as `figure_rows` leaves them. Lower ones count it as 0 and round down: they stand in the third and fourth row in
-    the same way. With no node waiting, the two figures of a node are at most 2 h units apart, and the upper one is that
-    of `figure`. `low` and `high` are the root's figures divided by CERTAIN.
-
-    Refused with the graph check's refusal; then 27 where h is over MOST_STEPS, 28 where a row is shorter than the
-    nodes, at 0 to 3 for the first to the fourth row.
-    """
-    held = [units(MOST_NODES) if row is None else row for row in (first, second, third, fourth)]
-    places, found, steps, rows = PLACES(), BOTH_ENDS(), size(h, "h"), unit_rows(*held)
-    model, graph = folder_bytes(model), folder_bytes(graph)
-    lent = [argument for row in rows for argument in row.arguments]
-    answered(loaded().laguipy_ends(*passed(model), *passed(graph), steps, *lent, places, found), places)
-    upper, lower = (memoryview(held[pair + steps % 2])[: node_count(model, graph)] for pair in (0, 2))
-    return Ends(*found, lower, upper)
 
 
 def step(model, state, command, branch, result=None):
@@ -379,11 +341,6 @@ def build(model, rounds=MOST_ROUNDS, room=GRAPH_BYTES):
 def variables_of(model):
     """How many variables an accepted model has: its second body, by the second entry of its table of contents."""
     return int.from_bytes(folder_bytes(model)[12:16], "little") // VARIABLE_BYTES
-
-
-def node_count(model, graph):
-    """How many nodes an accepted graph has: its first body, by the first entry of its table of contents."""
-    return int.from_bytes(graph[4:8], "little") // node_size(variables_of(model))
 
 
 def state_values(state):

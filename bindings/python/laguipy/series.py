@@ -1,5 +1,4 @@
-"""`laguipy figures`: figures for many numbers of steps and nodes, written as they come. Where nodes wait there are two
-ends in place of each figure."""
+"""`laguipy figures`: figures for many numbers of steps and nodes, written as they come."""
 import json
 import re
 import time
@@ -7,7 +6,7 @@ from typing import NamedTuple, Tuple
 
 from . import native
 from .errors import UsageError
-from .limits import CERTAIN, MOST_STEPS
+from .limits import CERTAIN, MOST_NODES, MOST_STEPS
 from .output import Ticker, emit
 
 DIGITS = 9  # of the largest number that is told from others: all larger ones are refused alike
@@ -123,95 +122,19 @@ def told_time(seconds):
     return f"{seconds / 60:.0f} min" if seconds < 6000 else f"{seconds / 3600:.1f} h"
 
 
-class Figures:
-    """The figures of a finished graph: for each node so many units."""
-
-    COLUMNS = ("units", "percent")
-    ROWS = 2
-
-    def __init__(self, model, graph, summary):
-        self.folders, self.summary = (model, graph), summary
-        self.lent = [native.units(summary.nodes) for _ in range(self.ROWS)]
-
-    def notes(self, graph):
-        """What is worth knowing of them, a line each. The graph is told by this name."""
-        return []
-
-    def about(self, notes):
-        """What JSON tells before them."""
-        return {"answer": "accepted", "root": self.summary.root}
-
-    def refuse(self, h):
-        """Raises what the library refuses of so many steps; nothing is worked out."""
-        native.figure_refusal(*self.folders, h, *self.lent)
-
-    def rounds(self, h):
-        """Round h and the one before it, if there is one: what each node has."""
-        native.figure_rows(*self.folders, h, *self.lent)
-        last, before = (self.lent[row][:] for row in (h % 2, 1 - h % 2))
-        return last, before if h else None
-
-    @staticmethod
-    def values(units):
-        """What a node has, by the columns."""
-        return units, percent(units)
-
-    @staticmethod
-    def told(units):
-        """What a node has, for a reader."""
-        return f"{units} {percent(units)} %"
-
-
-class Ends(Figures):
-    """The ends of a graph in which nodes wait: for each node the low one and the high one, in units."""
-
-    COLUMNS = ("low", "high", "low_percent", "high_percent")
-    ROWS = 4
-
-    def notes(self, graph):
-        count = self.summary.waiting
-        wait = "1 node waits" if count == 1 else f"{count} nodes wait"
-        closer = "explore on, or build with more --nodes, to bring them closer"
-        return [f"{graph}: {wait}, and the chance at worst lies between the two ends; {closer}"]
-
-    def about(self, notes):
-        return {**super().about(notes), "waiting": self.summary.waiting, "notes": notes}
-
-    def refuse(self, h):
-        if h > MOST_STEPS:  # There is no call that only refuses; this one does so before the first round.
-            native.ends(*self.folders, h, *self.lent)
-
-    def rounds(self, h):
-        native.ends(*self.folders, h, *self.lent)
-        last, before = (list(zip(self.lent[2 + row], self.lent[row])) for row in (h % 2, 1 - h % 2))
-        return last, before if h else None
-
-    @staticmethod
-    def values(ends):
-        return *ends, *map(percent, ends)
-
-    @staticmethod
-    def told(ends):
-        low, high = ends
-        return f"from {low} to {high} {percent(low)} % to {percent(high)} %"
-
-
-def of_graph(model, graph, summary):
-    """The figures of an accepted graph, or its ends."""
-    return (Ends if summary.waiting else Figures)(model, graph, summary)
-
-
-def figures_for(figures, steps):
-    """For each number of steps, ascending, what all nodes have. Every call starts at round 0, so that all numbers up to
+def figures_for(model, graph, steps):
+    """For each number of steps, ascending, all nodes' figures. Every call starts at round 0, so that all numbers up to
     H take time in the square of H; once two rounds are equal, so are all later ones, and no call is made."""
-    calls = calls_for(steps)
+    nodes, calls = native.graph_check(model, graph).nodes, calls_for(steps)
+    rows = native.units(MOST_NODES), native.units(MOST_NODES)
     estimate, last, before = Estimate(calls), None, None
     with Ticker() as ticker:
         for call in calls:
             if last is None or last != before:
                 began = time.monotonic()
-                last, before = figures.rounds(call.h)
+                native.figure_rows(model, graph, call.h, *rows)
                 estimate.took(call.h, time.monotonic() - began)
+                last, before = rows[call.h % 2][:nodes], rows[1 - call.h % 2][:nodes] if call.h else None
                 if ticker.due():
                     ticker.tell(f"{call.h} of {steps[-1]} steps, some {told_time(estimate.left())} left")
             for h in call.steps:
@@ -222,20 +145,20 @@ def figures_for(figures, steps):
 
 
 class Lines:
-    """Figures, or ends, as lines for a reader."""
+    """Figures as lines for a reader."""
 
-    def __init__(self, figures, nodes, about):
-        self.figures, self.nodes, self.about = figures, nodes, about
+    def __init__(self, root, nodes):
+        self.root, self.nodes = root, nodes
         self.named = list(nodes) != [0]
 
     def head(self):
         return ""
 
-    def rows(self, h, found):
-        return [self.row(h, node, found[node]) for node in self.nodes]
+    def rows(self, h, figures):
+        return [self.row(h, node, figures[node], percent(figures[node])) for node in self.nodes]
 
-    def row(self, h, node, found):
-        return f"within {h}{f' node {node}' if self.named else ''} {self.figures.told(found)}\n"
+    def row(self, h, node, units, part):
+        return f"within {h}{f' node {node}' if self.named else ''} {units} {part} %\n"
 
     def tail(self, complete):
         return ""
@@ -243,25 +166,23 @@ class Lines:
 
 class Csv(Lines):
     def head(self):
-        return ",".join(("h", "node", *self.figures.COLUMNS)) + "\n"
+        return "h,node,units,percent\n"
 
-    def row(self, h, node, found):
-        return ",".join(map(str, (h, node, *self.figures.values(found)))) + "\n"
+    def row(self, h, node, units, part):
+        return f"{h},{node},{units},{part}\n"
 
 
 class Json(Lines):
-    """One document, a row to a line, after what is told about the graph. It ends with whether it has all that was asked
-    for."""
+    """One document, a row to a line. It ends with whether it has all that was asked for."""
 
     between = "\n"
 
     def head(self):
-        return json.dumps(self.about)[:-1] + ', "figures": ['
+        return f'{{"answer": "accepted", "root": {self.root}, "figures": ['
 
-    def row(self, h, node, found):
+    def row(self, h, node, units, part):
         between, self.between = self.between, ",\n"
-        values = zip(self.figures.COLUMNS, self.figures.values(found))
-        return between + json.dumps({"h": h, "node": node, **dict(values)})
+        return between + json.dumps({"h": h, "node": node, "units": units, "percent": part})
 
     def tail(self, complete):
         return f'\n], "complete": {json.dumps(complete)}}}\n'

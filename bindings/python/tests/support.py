@@ -1,5 +1,4 @@
-"""What the tests share: where the package and the examples stand, folders of the examples, damage by a seed, and the
-ends in plain Python."""
+"""What the tests share: where the package and the examples stand, folders of the examples, and damage by a seed."""
 import contextlib
 import io
 import os
@@ -16,14 +15,11 @@ EXAMPLES = os.path.join(ROOT, "examples")
 LAGUIPY = os.path.join(ROOT, "laguipy")
 PEDAL = os.path.join(EXAMPLES, "pedal")
 SCAN = os.path.join(EXAMPLES, "scan_loop")
-UNFINISHED = os.path.join(EXAMPLES, "unfinished")
 
 sys.dont_write_bytecode = True
 sys.path.insert(0, os.path.join(ROOT, "bindings", "python"))
 
 from laguipy import cli  # noqa: E402
-from laguipy.folder import COVERED, TARGET, WAITING, read_graph, read_model, shape_of  # noqa: E402
-from laguipy.limits import CERTAIN  # noqa: E402
 
 
 def read(path, mode="rb"):
@@ -97,40 +93,6 @@ def damaged_text(text, dice):
         else:
             text = text[:at] + " " + dice.choice(PIECES) + " " + text[at:]
     return text
-
-
-def plain_ends(model, graph, h):
-    """The lower and the upper figures of all nodes of an accepted graph, for h steps."""
-    folders = read_model(model), read_graph(graph, shape_of(model))
-    lower = plain_round(*folders, h, 0, lambda total, whole: total // whole)
-    return lower, plain_round(*folders, h, CERTAIN, lambda total, whole: -(-total // whole))
-
-
-def plain_round(model, graph, h, waiting, divided):
-    """Round h, by what a waiting node counts as and how a sum is divided."""
-    kept = {WAITING: waiting, TARGET: CERTAIN}
-    row = covers_taken(graph, [kept.get(node.kind, 0) for node in graph.nodes])
-    for _ in range(h):
-        last, row = row, [kept.get(node.kind, 0) for node in graph.nodes]
-        for n, edges in enumerate(graph.edges):
-            row[n] = max([row[n], *(divided(weighed(model, edge, last), model.total) for edge in edges)])
-        if covers_taken(graph, row) == last:
-            break
-    return row
-
-
-def weighed(model, edge, row):
-    """The sum of an edge: each successor's figure by its branch's weight."""
-    weights = (model.branches[record].weight for record in model.branches_of(edge.command))
-    return sum(weight * row[successor] for weight, successor in zip(weights, edge.successors))
-
-
-def covers_taken(graph, row):
-    """The row, in which covered nodes have taken their covers' figures."""
-    for n, node in enumerate(graph.nodes):
-        if node.kind == COVERED:
-            row[n] = row[node.cover]
-    return row
 
 
 def interruptible():

@@ -201,7 +201,7 @@ class Limits(Building):
         self.assertEqual(read(self.path("m/graph.fold")), laguipy.build(model))
         self.assertLess(4096 - 6, int(out.split()[1]))
         self.assertEqual(self.built(folder, "--nodes", "4096"), (out, said))
-        self.assertEqual(run("figures", "-q", folder, "3")[1], b"within 3 from 0 to 0 0 % to 0 %\n")
+        self.assertEqual(run("figures", folder, "3")[1][:10], b"refused 26")
         out, said = self.built(folder, "--nodes", "4000")
         self.assertIn("building ended at --nodes 4000, and more may lower the root value", said)
         self.assertLessEqual(int(out.split()[1]), 4000)
@@ -274,22 +274,19 @@ class Notes(Building):
         self.assertEqual(run("figures", self.path("m"), "1000")[1], b"within 1000 0 0 %\n")
 
     def test_waiting(self):
-        wait = "2 nodes wait and count as certainty: the root value is a bound all the same; building ended at"
-        ends = f"`laguipy figures {self.path('m')} 1000` has two ends, and the chance within 1000 steps lies between"
-        self.assert_told([wait, ends], self.notes(example("pedal")[0], "--nodes", "5"))
-        self.assert_told(["1 node waits and counts as certainty", ends], self.notes(LOOP, "--nodes", "1"))
+        wait = "2 nodes wait and count as certainty: the root value is a bound all the same"
+        self.assert_told([wait], self.notes(example("pedal")[0], "--nodes", "5"))
+        self.assert_told(["1 node waits and counts as certainty"], self.notes(LOOP, "--nodes", "1"))
         yet = "another round lowers values yet"
-        self.assert_told([wait, yet, ends], self.notes(example("pedal")[0], "--nodes", "5", "--rounds", "0"))
-        self.assert_told(["nodes wait", "from node 0", ends], self.notes(example("scan_loop")[0], "--nodes", "14"))
-        self.assertTrue(run("figures", "-q", self.path("m"), "1000")[1].startswith(b"within 1000 from 0 to "))
+        self.assert_told([wait, yet], self.notes(example("pedal")[0], "--nodes", "5", "--rounds", "0"))
+        self.assert_told(["nodes wait", "from node 0"], self.notes(example("scan_loop")[0], "--nodes", "14"))
 
     def test_a_bound_though_nodes_wait(self):
         """A safe part of the model is built, an unlikely one waits: the root value is its chance."""
         text = "total 100\nvariable x 0..3 = 0\ntarget x = 3\ncommand go: x = 0\n  99: x' = 1\n  1: x' = 2\n"
         text += "command on: x = 2\n  100: x' = 3\n"
-        self.assert_told(["1 node waits and counts as certainty", "two ends"], self.notes(text, "--nodes", "3"))
+        self.assert_told(["1 node waits and counts as certainty"], self.notes(text, "--nodes", "3"))
         self.assertEqual(run("-q", self.path("m"))[1].split(b"\n")[1], b"root 10000000")
-        self.assertEqual(run("figures", "-q", self.path("m"), "9")[1], b"within 9 from 0 to 10000000 0 % to 1 %\n")
 
     def test_words_for_other_commands(self):
         self.assertEqual(builder.places("a b/model.fold", "a b/graph.fold"), ["a b"])

@@ -11,24 +11,9 @@ import sys
 import unittest
 import unittest.mock
 
-from support import (
-    EXAMPLES,
-    LAGUIPY,
-    PEDAL,
-    ROOT,
-    SCAN,
-    UNFINISHED,
-    Room,
-    example,
-    examples,
-    interruptible,
-    plain_ends,
-    read,
-    run,
-    start,
-)
+from support import EXAMPLES, LAGUIPY, PEDAL, ROOT, SCAN, Room, example, examples, interruptible, read, run, start
 
-from laguipy import check, cli, ends
+from laguipy import check, cli
 from laguipy.advice import runs
 from laguipy.inputs import Pair
 from laguipy.output import RunError, Ticker
@@ -181,6 +166,13 @@ class Figures(Room):
         self.assertEqual(run("figures", PEDAL, "--upto", "99999")[:2], (1, b"refused 27 0\n"))
         self.assertEqual(run("figures", os.path.join(EXAMPLES, "refused_22"), "3")[:2], (1, b"refused 22 3\n"))
         self.assertIn("27: figures are for at most 10000 steps; ask for at most", run("figures", PEDAL, "10001")[2])
+        text = re.sub("value [0-9_]+", "value S", read(os.path.join(PEDAL, "pedal.graph"), "r"))
+        waiting = text.replace("node 4 covered by 1", "node 4 waiting")
+        model, graph = os.path.join(PEDAL, "model.fold"), self.path("g.fold")
+        self.assertEqual(run("graph", self.path("g.graph", waiting), "-m", model, "-o", graph)[0], 0)
+        status, out, said = run("figures", model, graph, "3")
+        self.assertEqual((status, out), (1, b"refused 26 4\n"))
+        self.assertIn("explore on until no node waits", said)
         for digits in (5, 26, 5000):
             self.assertEqual(run("figures", PEDAL, "9" * digits)[:2], (1, b"refused 27 0\n"))
             self.assertEqual(run("figures", PEDAL, "--upto", "9" * digits)[:2], (1, b"refused 27 0\n"))
@@ -261,14 +253,6 @@ class Figures(Room):
             raise KeyboardInterrupt
         self.assertEqual(seen.getvalue(), "\rlaguipy: 1 of 2 steps \033[K\r\033[K")
 
-    def test_finished(self):
-        """No node waits: nothing is said of ends."""
-        for words in ((PEDAL, "3"), (SCAN, "--upto", "9", "--csv"), (PEDAL, "3", "--nodes", "all", "--json")):
-            status, out, said = run("figures", *words)
-            self.assertEqual((status, said), (0, ""))
-            self.assertEqual(run("figures", "-q", *words), (status, out, said))
-            self.assertNotIn(b"waiting", out)
-
     def test_estimate(self):
         """Where the check takes 2 seconds and each round 3, what is left is just what they add up to."""
         calls = calls_for([0, 1, 5, 7, 8, 9])
@@ -281,138 +265,6 @@ class Figures(Room):
             estimate.took(call.h, 2 + 3 * call.h)
             self.assertAlmostEqual(estimate.left(), sum(2 + 3 * later.h for later in calls[n:]))
         self.assertEqual([told_time(s) for s in (7.4, 99, 600, 7200)], ["7 s", "99 s", "10 min", "2.0 h"])
-
-
-# A command that leads to what waits, and one that leads to a target now and then: the upper rounds settle at once, the
-# lower ones do not.
-SLOW = """
-total 10
-variable a 0..2 = 0
-target a = 2
-command leave: a = 0
-  10: a' = 1
-command fail: a = 0
-  9: a' = 0
-  1: a' = 2
-"""
-SLOW_GRAPH = """
-node 0 expanded value S tracks a state a=0
-  edge leave: 1
-  edge fail: 0 2
-node 1 waiting tracks none state a=1
-node 2 target tracks a state a=2
-"""
-
-
-class Unfinished(Room):
-    """Graphs in which nodes wait: two ends in place of a figure."""
-
-    NOTE = "nodes wait, and the chance at worst lies between the two ends; explore on, or build with more --nodes, to"
-
-    def early(self, nodes):
-        """A folder with the scan loop's model, and a graph of it that was stopped early."""
-        folder = os.path.dirname(self.path("early/model.fold", example("scan_loop")[0]))
-        self.assertEqual(run("build", "-q", folder, "--nodes", str(nodes))[0], 0)
-        return folder
-
-    def folders(self, folder):
-        return [read(os.path.join(folder, name)) for name in check.NAMES]
-
-    def percent(self, units):
-        return f"{units // 10**7}.{units % 10**7:07}".rstrip("0").rstrip(".")
-
-    def test_example(self):
-        """A rare node waits, and the ends are near the figure of the finished graph."""
-        status, out, said = run("figures", UNFINISHED, "1000")
-        (lower, *_), (upper, *_) = plain_ends(*self.folders(UNFINISHED), 1000)
-        told = f"within 1000 from {lower} to {upper} {self.percent(lower)} % to {self.percent(upper)} %\n"
-        self.assertEqual((status, out.decode()), (0, told))
-        figure = int(run("figures", SCAN, "1000")[1].split()[2])
-        self.assertTrue(lower < figure < upper < 1.02 * lower, (lower, figure, upper))
-        fold = os.path.join(UNFINISHED, "graph.fold")
-        self.assertTrue(said.startswith(f"laguipy: {fold}: 1 node waits, and the chance at worst lies between "), said)
-
-    def test_note(self):
-        """It is said once, before the ends, and with -q not at all; JSON has it in itself."""
-        folder = self.early(9)
-        fold = os.path.join(folder, "graph.fold")
-        waiting = int(run("-q", folder)[1].split()[9])
-        for words in (("3",), ("--upto", "20", "--nodes", "all"), ("3", "--csv")):
-            status, out, said = run("figures", folder, *words)
-            self.assertEqual((status, said.count("\n")), (0, 1))
-            self.assertTrue(said.startswith(f"laguipy: {fold}: {waiting} {self.NOTE} bring them closer"), said)
-            self.assertEqual(run("figures", folder, *words, "-q"), (0, out, ""))
-        for words, count in (((), 1), (("-q",), 0)):
-            status, out, said = run("figures", folder, "3", "--json", *words)
-            data = json.loads(out)
-            self.assertEqual((status, said, data["waiting"], len(data["notes"])), (0, "", waiting, count))
-        model = os.path.join(folder, "model.fold")
-        came = start("figures", model, "-", "3", input=read(fold), stderr=subprocess.STDOUT).stdout.decode()
-        self.assertTrue(came.startswith(f"laguipy: standard input: {waiting} {self.NOTE}"), came)
-        self.assertIn("\nwithin 3 from ", came)
-
-    def test_forms(self):
-        pairs = list(zip(*plain_ends(*self.folders(UNFINISHED), 7)))
-        self.assertGreater(len(set(pairs)), 4)
-        due = [(7, n, *pair, *map(self.percent, pair)) for n, pair in enumerate(pairs)]
-        told = ["within {} node {} from {} to {} {} % to {} %".format(*row) for row in due]
-        self.assertEqual(run("figures", UNFINISHED, "7", "--nodes", "all")[1].decode().splitlines(), told)
-        self.assertEqual(run("figures", UNFINISHED, "7")[1].decode(), told[0].replace(" node 0", "") + "\n")
-        self.assertEqual(run("figures", UNFINISHED, "7", "--nodes", "5,2-3")[1].decode().splitlines()[1:], told[2:4])
-        head, *rows = run("figures", UNFINISHED, "7", "--nodes", "all", "--csv")[1].decode().splitlines()
-        columns = head.split(",")
-        self.assertEqual(columns, ["h", "node", "low", "high", "low_percent", "high_percent"])
-        self.assertEqual(rows, [",".join(map(str, row)) for row in due])
-        data = json.loads(run("figures", UNFINISHED, "7", "--nodes", "all", "--json")[1])
-        self.assertEqual(data["figures"], [dict(zip(columns, row)) for row in due])
-        self.assertEqual((data["answer"], data["root"], data["complete"]), ("accepted", 10**9, True))
-
-    def test_every_step_is_the_call_of_its_own(self):
-        """Upper and lower rounds settle each by themselves: none is taken for settled where the other is."""
-        self.assertEqual(run("model", self.path("slow/m.model", SLOW))[0], 0)
-        self.assertEqual(run("graph", self.path("slow/g.graph", SLOW_GRAPH))[0], 0)
-        for folder in (self.path("slow"), UNFINISHED, self.early(9)):
-            folders = self.folders(folder)
-            lines = run("figures", folder, "--upto", "300", "7000", "--nodes", "all", "--csv")[1].decode().splitlines()
-            due = []
-            for h in [*range(301), 7000]:
-                found = ends(*folders, h)
-                due += [f"{h},{n},{low},{high}" for n, (low, high) in enumerate(zip(found.lower, found.upper))]
-            self.assertEqual([line.rsplit(",", 2)[0] for line in lines[1:]], due, folder)
-
-    def test_however_early(self):
-        """The chance lies between; and where it was not stopped early there is one figure."""
-        figure = int(run("figures", SCAN, "100")[1].split()[2])
-        for nodes in range(1, 20):
-            words = run("figures", "-q", self.early(nodes), "100")[1].split()
-            low, high = (int(words[3]), int(words[5])) if words[2] == b"from" else (int(words[2]),) * 2
-            self.assertLessEqual(low, figure)
-            self.assertLessEqual(figure - 100, high)
-        self.assertEqual((low, high), (figure, figure))
-
-    def test_refused(self):
-        """Too many steps, and a graph that breaks a rule, as for any graph; and nothing is said of ends."""
-        for h in ("10001", "9" * 30):
-            status, out, said = run("figures", UNFINISHED, h)
-            self.assertEqual((status, out, said.count("\n")), (1, b"refused 27 0\n", 1))
-            self.assertIn("27: figures are for at most 10000 steps; ask for at most", said)
-        data = json.loads(run("figures", UNFINISHED, "--upto", "10001", "--json")[1])
-        self.assertEqual([data[key] for key in ("answer", "number", "place", "second")], ["refused", 27, 0, 0])
-        self.assertEqual(run("figures", UNFINISHED, "10000")[0], 0)
-        status, out, said = run("figures", UNFINISHED, "3", "--nodes", "10")
-        self.assertEqual((status, out), (2, b""))
-        self.assertIn("there is no node 10: they are 0 to 9", said)
-        self.assertNotIn("wait", said)
-        text = read(os.path.join(UNFINISHED, "scan.graph"), "r").replace("node 3 waiting", "node 3 waiting value 7")
-        model, fold = os.path.join(UNFINISHED, "model.fold"), self.path("g.fold")
-        self.assertEqual(run("graph", self.path("g.graph", text), "-m", model, "-o", fold, "--anyway")[0], 0)
-        self.assertEqual(run("figures", model, fold, "3")[:2], (1, b"refused 25 3\n"))
-
-    def test_how_far_it_has_come(self):
-        with unittest.mock.patch.dict(Ticker.SECONDS, {False: 0}):
-            status, out, said = run("figures", "-q", UNFINISHED, "--upto", "300")
-        self.assertEqual((status, out), (0, run("figures", UNFINISHED, "--upto", "300")[1]))
-        self.assertIn("laguipy: 300 of 300 steps, some 0 s left", said)
 
 
 class Texts(Room):
@@ -669,7 +521,6 @@ class Output(unittest.TestCase):
         ("check", "--json", PEDAL),
         ("figures", PEDAL, "3"),
         ("figures", PEDAL, "--upto", "9", "--json"),
-        ("figures", UNFINISHED, "3"),
         ("explain", PEDAL),
         ("show", PEDAL),
         ("model", os.path.join(PEDAL, "pedal.model"), "-o", "-"),

@@ -8,7 +8,7 @@ import threading
 import unittest
 from array import array
 
-from support import PEDAL, damaged_bytes, example, plain_ends, read, seeded
+from support import PEDAL, damaged_bytes, example, read, seeded
 
 import laguipy
 from laguipy import Refusal, native
@@ -70,7 +70,6 @@ class Answers(unittest.TestCase):
             lambda *folders: laguipy.figure(*folders, 1),
             lambda *folders: laguipy.figure_rows(*folders, 1, *rows()),
             lambda *folders: laguipy.figure_refusal(*folders, 1, *rows()),
-            lambda *folders: laguipy.ends(*folders, 1),
         )
         told = read(os.path.join(PEDAL, "pedal.graph"), "r").replace("node 5 target", "node 5 expanded")
         wrong_kind = laguipy.write_graph(told, MODEL, ["a", "d"]).data
@@ -173,157 +172,6 @@ class Answers(unittest.TestCase):
         for batch in ([40_000, 0], ["a", "b"], None, [0.5, 1]):
             with self.assertRaises((TypeError, ValueError)):
                 laguipy.index(MODEL, GRAPH, batch)
-
-
-class TwoEnds(unittest.TestCase):
-    """The ends. In the pedal example, with node 5 waiting, no target is known."""
-
-    WAITING = changed(GRAPH, (116, 0))
-    NODES = 6
-
-    def lent(self, *lengths):
-        return [array("I", [9] * length) for length in lengths]
-
-    def refused(self, *arguments):
-        with self.assertRaises(Refusal) as caught:
-            laguipy.ends(*arguments)
-        return caught.exception.args
-
-    def test_pedal(self):
-        found = laguipy.ends(MODEL, GRAPH, 2)
-        self.assertEqual((found.low, found.high), (0.01, 0.01))
-        self.assertEqual((found.lower.tolist(), found.upper.tolist()), (FIGURES, FIGURES))
-        found = laguipy.ends(MODEL, self.WAITING, 2)
-        self.assertEqual((found.low, found.high), (0.0, 0.01))
-        self.assertEqual((found.lower.tolist(), found.upper.tolist()), ([0] * self.NODES, FIGURES))
-        with self.assertRaises(Refusal) as caught:
-            laguipy.figure(MODEL, self.WAITING, 2)
-        self.assertEqual(caught.exception, Refusal(26, 5))
-
-    def test_rows(self):
-        """Rounds h and h - 1 by parity, the upper ones in two rows and the lower ones in two; all else stays."""
-        for graph in (GRAPH, self.WAITING):
-            for h in range(5):
-                lent = self.lent(6, 7, 8, 9)
-                found = laguipy.ends(MODEL, graph, h, *lent)
-                due = self.lent(6, 7, 8, 9)
-                for steps in {h, max(0, h - 1)}:
-                    for pair, figures in zip((2, 0), plain_ends(MODEL, graph, steps)):
-                        due[pair + steps % 2][: self.NODES] = array("I", figures)
-                self.assertEqual(lent, due, h)
-                self.assertIs(found.upper.obj, lent[h % 2])
-                self.assertIs(found.lower.obj, lent[2 + h % 2])
-                self.assertEqual((len(found.lower), len(found.upper)), (self.NODES, self.NODES))
-
-    def test_refused(self):
-        """The graph's refusals, 27, and 28 at each row; all rows stay."""
-        for graph, h, lengths, due in (
-            (GRAPH[:-1], 10_001, (0, 0, 0, 0), (13, 1, 0)),
-            (GRAPH, 10_001, (5, 5, 5, 5), (27, 0, 0)),
-            (GRAPH, 2**64 - 1, (6, 6, 6, 6), (27, 0, 0)),
-            (GRAPH, 10_000, (5, 5, 5, 5), (28, 0, 0)),
-            (GRAPH, 1, (6, 5, 5, 5), (28, 1, 0)),
-            (self.WAITING, 0, (6, 6, 5, 5), (28, 2, 0)),
-            (self.WAITING, 1, (6, 6, 6, 5), (28, 3, 0)),
-            (GRAPH, 1, (0, 0, 0, 0), (28, 0, 0)),
-        ):
-            lent = self.lent(*lengths)
-            self.assertEqual(self.refused(MODEL, graph, h, *lent), due)
-            self.assertEqual(lent, self.lent(*lengths))
-        self.assertEqual(laguipy.ends(MODEL, self.WAITING, 10_000, *self.lent(6, 6, 6, 6)).high, 0.01)
-
-    def test_refused_ends_are_0(self):
-        """The call writes both ends in any case."""
-        call, rows = native.loaded().laguipy_ends, native.unit_rows(*self.lent(6, 6, 6, 6))
-        lent = [argument for row in rows for argument in row.arguments]
-        for h, graph, due in ((10_001, GRAPH, (27, 0.0, 0.0)), (1, b"", (12, 0.0, 0.0)), (2, GRAPH, (0, 0.01, 0.01))):
-            both = native.BOTH_ENDS(7, 7)
-            number = call(MODEL, len(MODEL), graph, len(graph), h, *lent, native.PLACES(), both)
-            self.assertEqual((number, *both), due)
-
-    def test_a_covered_root(self):
-        """It takes its cover's figures."""
-        told = """
-            node 0 covered by 1 value 100_000_000 tracks a state a=0 d=0
-            node 1 expanded value 100_000_000 tracks a state a=0 d=1
-              edge 0: 2 3
-              edge 1: 0
-            node 2 expanded value 0 tracks a state a=3 d=1
-            node 3 waiting tracks none state a=1 d=1
-        """
-        found = laguipy.ends(MODEL, laguipy.write_graph(told, MODEL, ["a", "d"]).data, 1)
-        self.assertEqual((found.low, found.high), (0.0, 0.1))
-        self.assertEqual(found.upper.tolist(), [100_000_000, 100_000_000, 0, laguipy.CERTAIN])
-        self.assertEqual(found.lower.tolist(), [0, 0, 0, 0])
-
-    def test_certainty(self):
-        """It is exactly 1.0, as 0 is 0.0: of a root that waits, and of one that is a target."""
-        found = laguipy.ends(MODEL, laguipy.build(MODEL, 0, 36), 1)
-        self.assertEqual((found.low, found.high, found.lower.tolist()), (0.0, 1.0, [0]))
-        sure = laguipy.write_model("total 1\nvariable a 0..1 = 1\ntarget a = 1\ncommand true\n  1: a' = 1 - a\n").data
-        found = laguipy.ends(sure, laguipy.build(sure), 1)
-        self.assertEqual((found.low, found.high, found.lower.tolist()), (1.0, 1.0, [laguipy.CERTAIN]))
-
-    def early(self):
-        """Models with graphs that were stopped early, or not."""
-        for name in ("pedal", "scan_loop", "mixer", "dead_converter"):
-            model = example(name)[0]
-            whole = laguipy.build(model)
-            graphs = {laguipy.build(model, 3, room) for room in range(60, len(whole) + 1, 20)}
-            yield from ((model, graph, whole) for graph in (*graphs, whole))
-        yield (*example("unfinished"), example("scan_loop")[1])
-
-    def test_against_plain_rounds(self):
-        kinds = set()
-        for model, graph, _ in self.early():
-            summary = laguipy.graph_check(model, graph)
-            kinds.add(summary.waiting > 0)
-            for h in (0, 1, 2, 3, 10, 57):
-                found = laguipy.ends(model, graph, h)
-                lower, upper = plain_ends(model, graph, h)
-                self.assertEqual((found.lower.tolist(), found.upper.tolist()), (lower, upper))
-                self.assertEqual((found.low, found.high), (lower[0] / laguipy.CERTAIN, upper[0] / laguipy.CERTAIN))
-                self.assertLessEqual(upper[0], summary.root)
-                if not summary.waiting:
-                    self.assertEqual(laguipy.figure(model, graph, h).tolist(), upper)
-                    self.assertLessEqual(max(map(int.__sub__, upper, lower)), 2 * h)
-        self.assertEqual(kinds, {True, False})
-
-    def test_the_chance_lies_between(self):
-        """A figure of the whole graph is the chance, or up to h units more."""
-        apart = 0
-        for model, graph, whole in self.early():
-            for h in (0, 1, 3, 30, 1_000):
-                found, figure = laguipy.ends(model, graph, h), laguipy.figure(model, whole, h)[0]
-                self.assertLessEqual(found.lower[0], figure)
-                self.assertLessEqual(figure - h, found.upper[0])
-                apart += found.lower[0] < figure < found.upper[0]
-        self.assertGreater(apart, 10)
-
-    def test_arguments(self):
-        good, other = self.lent(8, 8)
-        for place in range(4):
-            for row in ([0] * 8, bytes(32), array("i", [0] * 8), memoryview(good)[::2]):
-                lent = self.lent(8, 8, 8, 8)
-                lent[place] = row
-                with self.assertRaises(TypeError) as caught:
-                    laguipy.ends(MODEL, GRAPH, 1, *lent)
-                self.assertIn(f"the {('first', 'second', 'third', 'fourth')[place]} row", str(caught.exception))
-        for lent in ((good, other, good), (None, good, other, good), (None, None, good, good)):
-            with self.assertRaises(ValueError):
-                laguipy.ends(MODEL, GRAPH, 1, *lent)
-        for h, error in ((-1, ValueError), (2**64, ValueError), (1.5, TypeError), (None, TypeError)):
-            with self.assertRaises(error):
-                laguipy.ends(MODEL, GRAPH, h)
-        self.assertEqual(laguipy.ends(bytearray(MODEL), memoryview(GRAPH), 2, good, other).high, 0.01)
-        both = bytearray(GRAPH)  # a folder that is written to as a row: what counts is what it was
-        self.assertEqual(laguipy.ends(MODEL, both, 2, memoryview(both).cast("I")).upper.tolist(), FIGURES)
-
-    def test_lent_rows_can_be_resized_again(self):
-        lent = self.lent(8, 8, 8, 8)
-        laguipy.ends(MODEL, GRAPH, 1, *lent)
-        for row in lent:
-            row.append(1)
 
 
 class Built(unittest.TestCase):
@@ -546,7 +394,6 @@ class Independent(unittest.TestCase):
         start = answers["part"]["start"]
         self.assertEqual(bytes(part), model[start : start + answers["part"]["length"]], name)
         self.compare_figures(case, model, graph, name)
-        self.compare_ends(case, model, graph, name)
         result = array("h", case["result_before"])
         came, _ = self.answer(laguipy.step, model, case["state"], case["command"], case["branch"], result)
         self.assertEqual((came, result.tolist()), (self.due(case, "step"), answers["step"]["result"]), name)
@@ -567,12 +414,6 @@ class Independent(unittest.TestCase):
                 self.assertEqual(part.tolist(), held[: due["nodes"]], name)
                 self.assertIs(part.obj, before[due["row"]], name)
 
-    def compare_ends(self, case, model, graph, name):
-        due, before = case["answers"]["ends"], [array("I", case[f"{which}_before"]) for which in native.ORDER]
-        came, found = self.answer(laguipy.ends, model, graph, case["h"], *before)
-        self.assertEqual(came, self.due(case, "ends"), name)
-        self.assertEqual([row.tolist() for row in before], [due[f"{which}_row"] for which in native.ORDER], name)
-        self.assertEqual(found[:2] if found else (0.0, 0.0), (due["low"], due["high"]), name)
 
     def compare_index(self, case, model, graph, name):
         due, before = case["answers"]["index"], [array("H", [fill] * length) for length, fill in case["index_rows"]]

@@ -7,15 +7,13 @@
 //! ```
 //!
 //! Writes the inputs of the seeds below COUNT, and with `--limits` those at the
-//! limits too, one JSON object per line. Numbers are whole, up to 2^64 − 1, but for
-//! the two ends, each of which reads as one number of binary64. The input:
+//! limits too, one JSON object per line. Numbers are whole, up to 2^64 − 1. The
+//! input:
 //!
 //! - `seed`, null for one at the limits; `name`: what sort of input it is;
 //! - `model`, `graph`: the folders, in lower-case hex;
 //! - for the figure, `h` and `rows`, the lengths of the two rows; `first_before` and
 //!   `second_before`, what these hold before the call;
-//! - for the ends, the same, and `lower_rows`, the lengths of the third row and the fourth;
-//!   `third_before` and `fourth_before`, what these hold before the call;
 //! - for the step, `state`, `command`, `branch` and `result`, the length of the
 //!   result row; `result_before`, what this holds before the call;
 //! - for the view, `body` and `record`;
@@ -36,8 +34,6 @@
 //!   call, has slot and node for each slot that holds one, all others being 65,535, and
 //!   is null if refused, when the row stays; `answers` and `listing` are these rows
 //!   after the call;
-//! - `ends`: `low` and `high` are the ends, both 0.0 if refused; `first_row` to
-//!   `fourth_row` are the rows after the call;
 //! - `part`: the view, `start` and `length` of the record in the model folder.
 //!
 //! It exits with 2 for bad usage, 3 if its output cannot be written; a closed pipe
@@ -51,8 +47,8 @@ mod generate;
 mod reference;
 
 use generate::limits::limits;
-use generate::{ends_before, index_before, result_before, Input};
-use laguipy::{Ends, Refusal, Summary};
+use generate::{index_before, result_before, row_before, Input};
+use laguipy::{Refusal, Summary};
 use reference::{Part, NO_NODE};
 use std::io::{self, BufWriter, StdoutLock, Write};
 use std::process::ExitCode;
@@ -90,17 +86,6 @@ fn figure_answer(input: &Input, [mut first, mut second]: [Vec<u32>; 2]) -> Strin
     )
 }
 
-fn ends_answer(input: &Input, [mut first, mut second, mut third, mut fourth]: [Vec<u32>; 4]) -> String {
-    let Input { model, graph, h, .. } = input;
-    let (upper, lower) = ((&mut first, &mut second), (&mut third, &mut fourth));
-    let answer = reference::ends(model, graph, *h, upper.0, upper.1, lower.0, lower.1);
-    let Ends { low, high } = answer.unwrap_or(Ends { low: 0.0, high: 0.0 });
-    let rows = format!(
-        r#""first_row":{first:?},"second_row":{second:?},"third_row":{third:?},"fourth_row":{fourth:?}"#
-    );
-    format!(r#"{{{},"low":{low:?},"high":{high:?},{rows}}}"#, outcome(&answer))
-}
-
 fn step_answer(input: &Input, mut result: Vec<i16>) -> String {
     let Input { model, state, command, branch, .. } = input;
     let answer = reference::step(model, state, *command, *branch, &mut result);
@@ -129,16 +114,14 @@ fn part_answer(Input { model, body, record, .. }: &Input) -> String {
     format!(r#"{{"start":{start},"length":{}}}"#, part.len())
 }
 
-fn answers(input: &Input, rows: [Vec<u32>; 4], result: Vec<i16>) -> String {
-    let [first, second, ..] = rows.clone();
+fn answers(input: &Input, rows: [Vec<u32>; 2], result: Vec<i16>) -> String {
     format!(
-        r#"{{"model":{{{}}},"graph":{},"figure":{},"step":{},"index":{},"ends":{},"part":{}}}"#,
+        r#"{{"model":{{{}}},"graph":{},"figure":{},"step":{},"index":{},"part":{}}}"#,
         outcome(&reference::model_check(&input.model)),
         graph_answer(input),
-        figure_answer(input, [first, second]),
+        figure_answer(input, rows),
         step_answer(input, result),
         index_answer(input),
-        ends_answer(input, rows),
         part_answer(input)
     )
 }
@@ -151,7 +134,6 @@ fn write_line(out: &mut impl Write, seed: Option<u64>, input: &Input) -> io::Res
         graph,
         h,
         rows,
-        lower_rows,
         state,
         command,
         branch,
@@ -162,12 +144,11 @@ fn write_line(out: &mut impl Write, seed: Option<u64>, input: &Input) -> io::Res
         index_rows,
     } = input;
     let seed = seed.map_or("null".to_owned(), |seed| seed.to_string());
-    let before = ends_before(input.ends_rows());
-    let [first, second, third, fourth] = &before;
+    let before = [row_before(rows[0], 1), row_before(rows[1], 2)];
+    let [first, second] = &before;
     let row = result_before(*result);
     write!(out, r#"{{"seed":{seed},"name":{name:?},"model":"{}","graph":"{}","#, hex(model), hex(graph))?;
     write!(out, r#""h":{h},"rows":{rows:?},"first_before":{first:?},"second_before":{second:?},"#)?;
-    write!(out, r#""lower_rows":{lower_rows:?},"third_before":{third:?},"fourth_before":{fourth:?},"#)?;
     write!(out, r#""state":{state:?},"command":{command},"branch":{branch},"result":{result},"#)?;
     write!(out, r#""result_before":{row:?},"body":{body},"record":{record},"#)?;
     write!(

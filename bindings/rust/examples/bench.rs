@@ -5,7 +5,7 @@
 //! cargo run --release --offline --example bench
 //! ```
 //!
-//! With `-- building`, the builder alone; with `-- ends`, the ends.
+//! With `-- building`, the builder alone.
 
 #[path = "../tests/generate/mod.rs"]
 mod generate;
@@ -15,7 +15,7 @@ mod reference;
 use generate::data::*;
 use generate::filling::{self, Filling};
 use generate::hostile::{self, Hostile};
-use generate::large::{deep_check, figures, unfinished, Large};
+use generate::large::{deep_check, figures, Large};
 use generate::limits::plain;
 use generate::random::Random;
 use generate::states::{one_hash, one_slot, spread, Crowd};
@@ -101,28 +101,6 @@ fn figure(model: &[u8], graph: &[u8], h: usize, runs: usize) {
         },
     );
     assert_eq!([first, second], [plain_first, plain_second]);
-}
-
-/// The ends, beside plain Rust that goes through the edges once for each end too.
-fn ends(model: &[u8], graph: &[u8], h: usize, runs: usize) {
-    let [mut proved, mut plain] = [[[0; MOST_NODES]; 4]; 2];
-    let [mut shown, mut plain_shown] = [None; 2];
-    report(
-        &format!("ends, h = {h}"),
-        runs,
-        || {
-            let [first, second, third, fourth] = &mut proved;
-            let (model, graph) = (black_box(model), black_box(graph));
-            shown = Some(laguipy::ends(model, graph, h, first, second, third, fourth).expect("accepted"));
-        },
-        || {
-            let [first, second, third, fourth] = &mut plain;
-            let (model, graph) = (black_box(model), black_box(graph));
-            plain_shown =
-                Some(reference::ends(model, graph, h, first, second, third, fourth).expect("accepted"));
-        },
-    );
-    assert_eq!((shown, proved), (plain_shown, plain));
 }
 
 fn step(model: &[u8], state: &[i16], command: usize, branch: usize, runs: usize) {
@@ -293,32 +271,9 @@ fn building() {
     }
 }
 
-/// The largest graphs: rounds that keep changing on both sides, with no node waiting and with
-/// half of them, and such as settle early.
-fn all_ends() {
-    for large in [figures(true), unfinished(), figures(false)] {
-        let Large { name, model, graph, .. } = large;
-        heading(name, &model, &graph);
-        graph_check("graph check", &model, &graph, 30);
-        ends(&model, &graph, 0, 30);
-        ends(&model, &graph, 100, 3);
-        ends(&model, &graph, 1_000, 2);
-        ends(&model, &graph, MOST_STEPS, 1);
-    }
-    let deep = deep_check();
-    heading("largest graph, hostile model", &deep.model, &deep.graph);
-    ends(&deep.model, &deep.graph, 100, 3);
-    let (model, graph) = generate::pedal();
-    let (model, graph) = (model.bytes(), graph.bytes());
-    heading("pedal example", &model, &graph);
-    ends(&model, &graph, 3, 10_000);
-}
-
 fn main() {
-    match std::env::args().nth(1).as_deref() {
-        Some("building") => return building(),
-        Some("ends") => return all_ends(),
-        _ => (),
+    if std::env::args().nth(1).as_deref() == Some("building") {
+        return building();
     }
     let deep = deep_check();
     heading("largest graph, hostile model", &deep.model, &deep.graph);
@@ -369,6 +324,5 @@ fn main() {
     index("index, no batch", &model, &graph, &[], 10_000);
 
     growth();
-    all_ends();
     building();
 }

@@ -53,8 +53,6 @@
 //!   limits, each from a seed (the environment variable `LAGUIPY_CASES` says how
 //!   many seeds the tests take);
 //! - `tests/against_reference.rs`: every call compared with the plain one;
-//! - `tests/ends.rs`: two-ended figures of unfinished graphs, compared likewise, and judged
-//!   by exact chances (`tests/chances`);
 //! - `tests/building.rs`: graphs that are built, compared byte for byte with those of
 //!   two plain builders, one by the paper's words and a quick one;
 //! - `examples/check.rs`: prints the check program's report, without its limit of
@@ -135,15 +133,6 @@ pub struct Summary {
     pub target: usize,
 }
 
-/// The two ends of the root's figure, as [`ends`] gives them. Each is a whole number of
-/// units divided by [`CERTAIN`] and rounded once, so that 0 units are exactly 0.0 and
-/// [`CERTAIN`] units exactly 1.0.
-#[derive(Clone, Copy, Debug, PartialEq)]
-pub struct Ends {
-    pub low: f64,
-    pub high: f64,
-}
-
 /// include/laguipy.h, which says what each function answers.
 mod c {
     extern "C" {
@@ -199,23 +188,6 @@ mod c {
             second_len: usize,
             place: *mut [usize; 2],
             part: *mut [usize; 2],
-        ) -> usize;
-        pub fn laguipy_ends(
-            model: *const u8,
-            model_len: usize,
-            graph: *const u8,
-            graph_len: usize,
-            h: usize,
-            first: *mut u32,
-            first_len: usize,
-            second: *mut u32,
-            second_len: usize,
-            third: *mut u32,
-            third_len: usize,
-            fourth: *mut u32,
-            fourth_len: usize,
-            place: *mut [usize; 2],
-            ends: *mut [f64; 2],
         ) -> usize;
         pub fn laguipy_build(
             model: *const u8,
@@ -414,70 +386,6 @@ pub fn figure<'a>(
     let [row, length] = part;
     let row = if row == 0 { first } else { second };
     outcome(number, place).map(|()| row.get_mut(..length).unwrap_or(&mut []))
-}
-
-/// The figure of the root for `h` steps by its two ends, also where nodes wait. Upper
-/// rounds count a waiting node as certainty and round up, lower ones count it as 0 and
-/// round down. The best chance to reach a target within `h` steps lies between the two;
-/// where no node waits, they are at most 2 × `h` units apart. This is said of the units,
-/// which stand in the rows, and not of the quotients in [`Ends`].
-///
-/// `first` and `second` serve the upper rounds as in [`figure_rows`], and where no node
-/// waits they are left as by that call. `third` and `fourth` serve the lower rounds, the
-/// third like the first and the fourth like the second. Elements past the node count
-/// stay, and all four rows when refused.
-///
-/// # Errors
-///
-/// The graph check's refusal; then 27 where `h` is over [`MOST_STEPS`], 28 where a row is
-/// shorter than the nodes, at place 0 to 3. A waiting node is no cause.
-///
-/// # Example
-///
-/// ```
-/// use laguipy::{ends, Ends};
-///
-/// let model = include_bytes!("../examples/pedal/model.fold");
-/// let mut graph = *include_bytes!("../examples/pedal/graph.fold");
-/// // Node 5, the target, has yet to be looked at: its kind is 0.
-/// graph[16 + 5 * 20] = 0;
-/// let [mut first, mut second, mut third, mut fourth] = [[0; 6]; 4];
-/// let of_root = ends(model, &graph, 2, &mut first, &mut second, &mut third, &mut fourth);
-/// assert_eq!(of_root, Ok(Ends { low: 0.0, high: 0.01 }));
-/// assert_eq!((first[2], third[2]), (100_000_000, 0));
-/// ```
-pub fn ends(
-    model: &[u8],
-    graph: &[u8],
-    h: usize,
-    first: &mut [u32],
-    second: &mut [u32],
-    third: &mut [u32],
-    fourth: &mut [u32],
-) -> Result<Ends, Refusal> {
-    let (mut place, mut ends) = ([0; 2], [0.0; 2]);
-    // SAFETY: as in `figure_rows`; the two locals are apart.
-    let number = unsafe {
-        c::laguipy_ends(
-            model.as_ptr(),
-            model.len(),
-            graph.as_ptr(),
-            graph.len(),
-            h,
-            first.as_mut_ptr(),
-            first.len(),
-            second.as_mut_ptr(),
-            second.len(),
-            third.as_mut_ptr(),
-            third.len(),
-            fourth.as_mut_ptr(),
-            fourth.len(),
-            &mut place,
-            &mut ends,
-        )
-    };
-    let [low, high] = ends;
-    outcome(number, place).map(|()| Ends { low, high })
 }
 
 /// The index of the nodes by their concrete states, and which uncovered nodes share

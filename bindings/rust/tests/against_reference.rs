@@ -9,7 +9,7 @@ use generate::large::Large;
 use generate::limits::limits;
 use generate::products::{assigned, many, products, spans};
 use generate::*;
-use laguipy::{Ends, Refusal, LAST_REFUSAL, MOST_NODES, MOST_STEPS, MOST_VARIABLES, SLOTS};
+use laguipy::{Refusal, LAST_REFUSAL, MOST_NODES, MOST_STEPS, MOST_VARIABLES, SLOTS};
 use std::collections::HashMap;
 use std::ops::Range;
 
@@ -75,21 +75,6 @@ fn compare_step(input: &Input) -> u32 {
     number(&answer)
 }
 
-/// Both ends by their bits, and the four rows.
-fn compare_ends(input: &Input) -> u32 {
-    let Input { name, model, graph, h, .. } = input;
-    let mut rows = ends_before(input.ends_rows());
-    let mut expected = rows.clone();
-    let [first, second, third, fourth] = &mut rows;
-    let answer = laguipy::ends(model, graph, *h, first, second, third, fourth);
-    let [first, second, third, fourth] = &mut expected;
-    let plain = reference::ends(model, graph, *h, first, second, third, fourth);
-    let bits = |Ends { low, high }| [low, high].map(f64::to_bits);
-    assert_eq!(answer.map(bits), plain.map(bits), "{name}");
-    assert_eq!(rows, expected, "{name}");
-    number(&answer)
-}
-
 /// The count of nodes listed, and the three rows.
 fn compare_index(input: &Input) -> u32 {
     let Input { name, model, graph, batch, .. } = input;
@@ -109,13 +94,11 @@ fn compare_part(model: &[u8], body: usize, record: usize) {
     assert_eq!((part.as_ptr(), part.len()), (plain.as_ptr(), plain.len()), "{body} {record}");
 }
 
-/// How many calls have numbers; and which two of them take steps and rows.
-const CALLS: usize = 6;
-const FIGURE: usize = 2;
-const ENDS: usize = 5;
+/// How many calls have numbers.
+const CALLS: usize = 5;
 
 /// Compares every call on an input, and gives the numbers of the answers: model
-/// check, graph check, figure, step, index, ends.
+/// check, graph check, figure, step, index.
 fn compare(input: &Input) -> [u32; CALLS] {
     let Input { name, model, graph, body, record, .. } = input;
     let of_model = laguipy::model_check(model);
@@ -126,8 +109,7 @@ fn compare(input: &Input) -> [u32; CALLS] {
         compare_part(model, body, record);
     }
     let [of_model, of_graph] = [number(&of_model), number(&of_graph)];
-    let [of_figure, of_ends] = [compare_figures(input), compare_ends(input)];
-    [of_model, of_graph, of_figure, compare_step(input), compare_index(input), of_ends]
+    [of_model, of_graph, compare_figures(input), compare_step(input), compare_index(input)]
 }
 
 /// Says which seed it was, where a comparison fails.
@@ -180,9 +162,9 @@ impl Tally {
     }
 
     fn print(&self) {
-        println!("number   model   graph  figure    step   index    ends  (0 is acceptance)");
-        for (number, [model, graph, figure, step, index, ends]) in self.numbers.iter().enumerate() {
-            println!("{number:6} {model:7} {graph:7} {figure:7} {step:7} {index:7} {ends:7}");
+        println!("number   model   graph  figure    step   index  (0 is acceptance)");
+        for (number, [model, graph, figure, step, index]) in self.numbers.iter().enumerate() {
+            println!("{number:6} {model:7} {graph:7} {figure:7} {step:7} {index:7}");
         }
         for name in reference::situations::names() {
             println!("{:7} {name}", self.met(name));
@@ -222,10 +204,6 @@ fn random_inputs() {
     if count >= SEEDS_FOR_ALL {
         for (number, counts) in tally.numbers.iter().enumerate() {
             assert!(counts.iter().any(|&count| count > 0), "no input is refused with {number}");
-        }
-        // Of the numbers that a figure has, the ends have all but that of a waiting node.
-        for (number, counts) in tally.numbers.iter().enumerate() {
-            assert_eq!(counts[ENDS] > 0, counts[FIGURE] > 0 && number != 26, "{number}");
         }
         let least = (count / SEEDS_FOR_ONE) as usize;
         for name in reference::situations::names() {
@@ -291,7 +269,6 @@ fn any_byte_of_the_pedal_may_change() {
                 graph,
                 h: 3,
                 rows: [6, 7],
-                lower_rows: [8, 6],
                 state: vec![0, 0],
                 command: 0,
                 branch: 1,
@@ -319,10 +296,9 @@ fn pedal_cut_short() {
     }
 }
 
-fn compare_large(large: Large, h: usize) -> [u32; CALLS] {
+fn compare_large(large: Large, h: usize) {
     let Large { name, model, graph, state, command, branch } = large;
-    let [rows, lower_rows] = [[MOST_NODES, MOST_NODES + 1], [MOST_NODES + 2, MOST_NODES]];
-    let result = MOST_VARIABLES + 1;
+    let (rows, result) = ([MOST_NODES, MOST_NODES + 1], MOST_VARIABLES + 1);
     let (body, record) = (4, data::MOST_BRANCH_RECORDS - 1);
     let batch = state.clone();
     let index_rows = [(SLOTS, 0), (1, 0), (MOST_NODES, 0)];
@@ -332,7 +308,6 @@ fn compare_large(large: Large, h: usize) -> [u32; CALLS] {
         graph,
         h,
         rows,
-        lower_rows,
         state,
         command,
         branch,
@@ -342,7 +317,7 @@ fn compare_large(large: Large, h: usize) -> [u32; CALLS] {
         batch,
         index_rows,
     };
-    compare(&input)
+    assert_eq!(compare(&input), [0; CALLS], "{name}");
 }
 
 #[test]
@@ -357,9 +332,7 @@ fn hostile_inputs() {
 
 #[test]
 fn largest_inputs() {
-    assert_eq!(compare_large(large::deep_check(), 7), [0; CALLS]);
-    assert_eq!(compare_large(large::figures(true), 40), [0; CALLS]);
-    assert_eq!(compare_large(large::figures(false), MOST_STEPS), [0; CALLS]);
-    // A node waits, which a figure alone is refused for.
-    assert_eq!(compare_large(large::unfinished(), 41), [0, 0, 26, 0, 0, 0]);
+    compare_large(large::deep_check(), 7);
+    compare_large(large::figures(true), 40);
+    compare_large(large::figures(false), MOST_STEPS);
 }

@@ -1,22 +1,18 @@
 //! Tests of the reference itself: the pedal example and changes to it, the limits,
 //! every number of refusal, and the best chances worked out state by state.
 
-mod chances;
 mod generate;
 mod reference;
 
-use chances::{meaning, Best};
 use generate::data::*;
 use generate::explore::{Plan, Values};
 use generate::large::LONGEST_EDGE;
 use generate::limits::limits;
 use generate::random::Random;
 use generate::*;
-use laguipy::{Ends, Refusal, Summary};
-use reference::{
-    ends, figure, fnv, graph_check, index, index_by_slots, model_check, record_part, step, Part,
-};
-use std::collections::HashSet;
+use laguipy::{Refusal, Summary};
+use reference::{figure, fnv, graph_check, index, index_by_slots, model_check, record_part, step, Part};
+use std::collections::{HashMap, HashSet};
 
 /// How many inputs a test over seeds takes.
 fn cases() -> u64 {
@@ -51,21 +47,6 @@ fn figure_rows(model: &[u8], graph: &[u8], h: usize, lengths: [usize; 2]) -> Row
 fn figures(model: &[u8], graph: &[u8], nodes: usize, h: usize) -> Result<Vec<u32>, Refusal> {
     let rows = figure_rows(model, graph, h, [nodes, nodes]);
     rows.answer.map(|part| rows.after[usize::from(part.second)][..part.nodes].to_vec())
-}
-
-/// The rows of a call for the ends: before it all four, after it the same.
-struct EndsRows {
-    before: [Vec<u32>; 4],
-    after: [Vec<u32>; 4],
-    answer: Result<Ends, Refusal>,
-}
-
-fn ends_rows(model: &[u8], graph: &[u8], h: usize, lengths: [usize; 4]) -> EndsRows {
-    let before = ends_before(lengths);
-    let mut after = before.clone();
-    let [first, second, third, fourth] = &mut after;
-    let answer = ends(model, graph, h, first, second, third, fourth);
-    EndsRows { before, after, answer }
 }
 
 /// The rows of an index call: before it slots, answers and listing, after it the same.
@@ -803,7 +784,6 @@ fn crowds_are_hard_to_tell_apart() {
 #[test]
 fn limits_are_kept() {
     for limit in limits() {
-        let four = limit.input.ends_rows();
         let Input { name, model, graph, h, rows, state, command, branch, result, batch, index_rows, .. } =
             limit.input;
         let mut row = result_before(result);
@@ -813,7 +793,6 @@ fn limits_are_kept() {
             figure_rows(&model, &graph, h, rows).answer.err(),
             step(&model, &state, command, branch, &mut row).err(),
             indexed(&model, &graph, &batch, index_rows).answer.err(),
-            ends_rows(&model, &graph, h, four).answer.err(),
         ];
         let expected = limit
             .answers
@@ -1117,48 +1096,8 @@ fn run_index(input: &Input, of_graph: Option<Refusal>) -> Indexed {
     rows
 }
 
-/// Runs the call for the ends on an input, and asks of it what holds of any.
-fn run_ends(input: &Input, of_graph: Result<Summary, Refusal>, figures: &Rows) -> Option<Refusal> {
-    let Input { model, graph, h, .. } = input;
-    let rows = ends_rows(model, graph, *h, input.ends_rows());
-    let Err(refusal) = rows.answer else {
-        hold_ends(input, of_graph.expect("an accepted graph"), &rows, figures);
-        return None;
-    };
-    assert_eq!(rows.before, rows.after);
-    match of_graph {
-        Ok(_) => assert!((27..=28).contains(&refusal.number)),
-        Err(other) => assert_eq!(refusal, other),
-    }
-    Some(refusal)
-}
-
-/// What holds of the rows after an accepted call for the ends, and after a figure call on the
-/// same input.
-fn hold_ends(input: &Input, summary: Summary, rows: &EndsRows, figures: &Rows) {
-    let Input { model, graph, h, .. } = input;
-    let Summary { root, waiting, expanded, covered, target } = summary;
-    let nodes = waiting + expanded + covered + target;
-    let EndsRows { before, after, .. } = rows;
-    assert!(before.iter().zip(after).all(|(before, after)| before[nodes..] == after[nodes..]));
-    let [this, other] = [[h % 2, 2 + h % 2], [(h + 1) % 2, 2 + (h + 1) % 2]];
-    // Untouched at 0, else the round before.
-    let last = h.checked_sub(1).map(|h| ends_rows(model, graph, h, [nodes; 4]).after);
-    for row in other {
-        assert_eq!(after[row][..nodes], last.as_ref().unwrap_or(before)[row][..nodes]);
-    }
-    let [high, low] = this.map(|row| &after[row][..nodes]);
-    assert!(low.iter().zip(high).all(|(low, high)| low <= high && *high <= CERTAIN));
-    assert!(high[0] <= root);
-    assert_eq!(figures.answer.is_ok(), waiting == 0);
-    if waiting == 0 {
-        assert_eq!(figures.after, after[..2]);
-        assert!(low.iter().zip(high).all(|(low, high)| (high - low) as usize <= 2 * h));
-    }
-}
-
 /// Runs every call on an input, and asks of each what holds of any.
-fn run_all(input: &Input) -> [Option<Refusal>; 6] {
+fn run_all(input: &Input) -> [Option<Refusal>; 5] {
     let Input { model, graph, h, rows, state, command, branch, result, body, record, .. } = input;
     let of_model = model_check(model).err();
     let of_graph = graph_check(model, graph);
@@ -1204,13 +1143,12 @@ fn run_all(input: &Input) -> [Option<Refusal>; 6] {
         assert!(part.is_empty());
     }
     let of_index = run_index(input, of_graph.err()).answer.err();
-    let of_ends = run_ends(input, of_graph, &rows);
-    [of_model, of_graph.err(), rows.answer.err(), of_step, of_index, of_ends]
+    [of_model, of_graph.err(), rows.answer.err(), of_step, of_index]
 }
 
 #[test]
 fn every_number_is_reached() {
-    let mut numbers = [[0usize; 6]; LAST_OF_INPUTS as usize + 1];
+    let mut numbers = [[0usize; 5]; LAST_OF_INPUTS as usize + 1];
     let mut kinds: Vec<(&str, usize, usize)> = Vec::new();
     for seed in 0..cases() {
         let input = input(seed);
@@ -1229,9 +1167,9 @@ fn every_number_is_reached() {
     for (name, count, accepted) in &kinds {
         println!("{name}: {count}, {accepted} of the graphs accepted");
     }
-    println!("number   model   graph  figure    step   index    ends  (0 is acceptance)");
-    for (number, [model, graph, figure, step, index, ends]) in numbers.iter().enumerate() {
-        println!("{number:6} {model:7} {graph:7} {figure:7} {step:7} {index:7} {ends:7}");
+    println!("number   model   graph  figure    step   index  (0 is acceptance)");
+    for (number, [model, graph, figure, step, index]) in numbers.iter().enumerate() {
+        println!("{number:6} {model:7} {graph:7} {figure:7} {step:7} {index:7}");
     }
     if cases() >= 5_000 {
         for (number, counts) in numbers.iter().enumerate() {
@@ -1287,7 +1225,6 @@ fn any_byte_of_the_pedal_may_change() {
                     graph,
                     h: 3,
                     rows: [6, 7],
-                    lower_rows: [8, 6],
                     state,
                     command: 0,
                     branch: 1,
@@ -1303,6 +1240,82 @@ fn any_byte_of_the_pedal_may_change() {
 }
 
 // ------------------------------------------------------------ best chances
+
+/// The value of an entry in a state, by plain recursion; a truth as 0 or 1.
+fn meaning(model: &ModelData, entry: u16, state: &[i16]) -> i64 {
+    let [operation, a, b, c] = model.entries[usize::from(entry)];
+    let of = |part| meaning(model, part, state);
+    match operation {
+        0 => (a as i16).into(),
+        1 => state[usize::from(a)].into(),
+        2 => of(a) + of(b),
+        3 => of(a) - of(b),
+        4 => of(a) * of(b),
+        5 => of(a).min(of(b)),
+        6 => of(a).max(of(b)),
+        7 if of(a) == 1 => of(b),
+        7 => of(c),
+        8 => (of(a) == of(b)).into(),
+        9 => (of(a) < of(b)).into(),
+        10 => (of(a) <= of(b)).into(),
+        11 => (of(a) == 0).into(),
+        12 => (of(a) == 1 && of(b) == 1).into(),
+        13 => (of(a) == 1 || of(b) == 1).into(),
+        _ => 1,
+    }
+}
+
+/// A state's moves: for each command enabled, weight and next state by branch.
+type Moves = Vec<Vec<(u128, Vec<i16>)>>;
+
+/// The best chances to reach a target within so many steps, where the total to the
+/// power of the steps is certainty; each state and number of steps worked out once.
+struct Best<'a> {
+    model: &'a ModelData,
+    moves: HashMap<Vec<i16>, Option<Moves>>,
+    found: HashMap<(u32, Vec<i16>), u128>,
+}
+
+impl Best<'_> {
+    /// Nothing for a target.
+    fn moves(&mut self, state: &[i16]) -> Option<Moves> {
+        if let Some(moves) = self.moves.get(state) {
+            return moves.clone();
+        }
+        let model = self.model;
+        let moves = (meaning(model, model.target, state) == 0).then(|| {
+            let commands = 0..model.commands.len();
+            let enabled = commands.filter(|&command| meaning(model, model.commands[command][0], state) == 1);
+            let branch = |branch: &Vec<u16>| {
+                let next = branch[1..].iter().map(|&entry| meaning(model, entry, state) as i16);
+                (u128::from(branch[0]), next.collect())
+            };
+            enabled.map(|command| model.branches_of(command).iter().map(branch).collect()).collect()
+        });
+        self.moves.insert(state.to_vec(), moves.clone());
+        moves
+    }
+
+    fn chance(&mut self, steps: u32, state: &[i16]) -> u128 {
+        let key = (steps, state.to_vec());
+        if let Some(&chance) = self.found.get(&key) {
+            return chance;
+        }
+        let chance = match self.moves(state) {
+            None => u128::from(self.model.total).pow(steps),
+            Some(_) if steps == 0 => 0,
+            Some(moves) => {
+                let sums = moves.iter().map(|branches| {
+                    let parts = branches.iter().map(|(weight, next)| weight * self.chance(steps - 1, next));
+                    parts.sum::<u128>()
+                });
+                sums.max().unwrap_or(0)
+            }
+        };
+        self.found.insert(key, chance);
+        chance
+    }
+}
 
 #[test]
 fn values_and_figures_bound_the_best_chances() {
@@ -1320,7 +1333,7 @@ fn values_and_figures_bound_the_best_chances() {
         let (bytes, graph_bytes) = (model.bytes(), graph.bytes());
         let summary = graph_check(&bytes, &graph_bytes).expect("explored graphs are accepted");
         finished += usize::from(summary.waiting == 0);
-        let mut best = Best::new(model);
+        let mut best = Best { model, moves: HashMap::new(), found: HashMap::new() };
         let certain = u128::from(CERTAIN);
         for steps in 0..=10 {
             let whole = u128::from(model.total).pow(steps);

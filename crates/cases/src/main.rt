@@ -6,7 +6,7 @@ use graph::Summary;
 use lookup::{MOST_NUMBERS, index_case};
 use samples::build::{asked, change, due, find, fold, fold_from, head, holds, letter, part};
 use tally::{PLACE, TALLY, WRONG, close_group, hold, judge, outcome_of, say};
-use witness::{box_steps, build_case, ends_case, figure_case, summary_case, units_case, zero_step};
+use witness::{box_steps, build_case, figure_case, summary_case, zero_step};
 
 // The longest model and the longest graph, and one byte more of each.
 const MODEL_ROOM: usize = 40000 + 1;
@@ -103,7 +103,6 @@ fn value_case(
 ) {
     match kind {
         b'r' => row_case(t, m, g, a[0], d),
-        b'E' => units_case(t, m, g, a[0], d),
         b'c' => summary_case(t, m, g, summary_due(d)),
         b'v' => record_case(t, m, a[1], a[2], d),
         b'h' => hash_case(t, a, d),
@@ -134,7 +133,6 @@ fn asked_case(
         b'm' | b'z' => judge(t, laguipy::model_check(m), answer_due(d)),
         b'g' | b'Z' => judge(t, outcome_of(laguipy::graph_check(m, g)), answer_due(d)),
         b'f' => figure_case(t, m, g, a, answer_due(d)),
-        b'e' => ends_case(t, m, g, a, answer_due(d)),
         b'i' => index_case(t, m, g, a, answer_due(d)),
         b'B' => build_case(t, m, a[0], a[1], d),
         b's' => zero_step(t, m, a[1], a[0], a[2], a[3]),
@@ -166,8 +164,6 @@ fn case(t: &mut [usize; TALLY], room: &mut [u8], f: Folders, kind: u8, body: &[u
     let from = match kind {
         b'm' | b'g' => 0,
         b'f' => 3,
-        b'e' => 5,
-        b'E' => 1,
         _ => 31,
     };
     let saved = change(room, base, from, &a);

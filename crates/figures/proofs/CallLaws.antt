@@ -1,12 +1,16 @@
--- By the outcome what the figure call makes of the rows, and the part it hands back.
+-- Rows 26 to 28 as the code tests them; and by the outcome what the figure call makes of the rows, and the part it
+-- hands back.
 -- Assumes nothing.
-use Prim.Native.Nat.{ℕ, ◌%◌, ◌≤◌}
+use Prim.Native.Nat.{ℕ, ◌%◌, ◌≤◌, ◌<◌}
 use mathlib.Core.Path.{◌≡◌, refl, sym, ap, ◌∙◌}
+use mathlib.Core.Bool.{Bool}
 use mathlib.Core.List.{List, [], ◌++◌}
-use borrow.Author.Tests.{eq-eqb, ne_eqb}
+use borrow.Author.Tests.{le-leb, lt-leb, eq-eqb, ne_eqb}
 use lib.ListN.{length, take}
 use lib.Seq.{take_at}
+use lib.Dec.{leb, eqb}
 use Rattle.folder.specs.Pick.{pick}
+use Rattle.folder.specs.Scan.{first_bad}
 use Rattle.folder.specs.Table.{outcome}
 use Rattle.folder.specs.declared.Refusal.{Refusal}
 use Rattle.folder.specs.declared.Outcome.{Outcome}
@@ -17,7 +21,24 @@ use Rattle.graph.specs.Simulation.{Simulation, simulation_of}
 use Rattle.graph.specs.Figures.{figures, figure_rows, first_of, second_of, part_of, part_in_first}
 use Rattle.graph.specs.Valid.{Valid}
 use Rattle.graph.proofs.Decided.{figure-asks}
-use Rattle.rounds.proofs.UpperLaws.{figures-long}
+use Rattle.rounds.proofs.FigureLaws.{figures-long}
+
+-- Row 28: no row is shorter than n.
+module _ (n : ℕ) (first second : List ℕ) where
+  abbrev long : ℕ → Bool
+  long p = leb n (length (pick (eqb p 0) first second))
+
+  pub first_short : length first < n → 0 ≡ first_bad long 2
+  unfolding first_bad
+  first_short l = rw (lt-leb n (length first) l) refl
+
+  pub second_short : n ≤ length first → length second < n → 1 ≡ first_bad long 2
+  unfolding first_bad
+  second_short p l = rw (le-leb n (length first) p, lt-leb n (length second) l) refl
+
+  pub both_long : n ≤ length first → n ≤ length second → 2 ≡ first_bad long 2
+  unfolding first_bad
+  both_long p q = rw (le-leb n (length first) p, le-leb n (length second) q) refl
 
 module _ (m g : List ℕ) (h : ℕ) (first second : List ℕ) where
   abbrev M : Model
@@ -71,7 +92,7 @@ module _ (m g : List ℕ) (h : ℕ) (first second : List ℕ) where
 
       module _ (A : Valid m g) {n : ℕ} (q : n ≡ G.nodes) where
         held : (rest : List ℕ) → take n (figures M G h ++ rest) ≡ figures M G h
-        held rest = take_at (figures M G h) rest n (figures-long M G h ∙ sym q)
+        held rest = take_at (figures M G h) rest n (figures-long A h ∙ sym q)
 
         pub first-held : {a : List ℕ} → a ≡ first_of M G h answer first → h % 2 ≡ 0 → take n a ≡ part_of M G h answer
         first-held p z = rw (p, accepted, eq-eqb (h % 2) 0 z) (held _)
@@ -80,4 +101,4 @@ module _ (m g : List ℕ) (h : ℕ) (first second : List ℕ) where
         second-held p z = rw (p, accepted, ne_eqb h 0 (λ k. z (ap (λ (j : ℕ). j % 2) k)), ne_eqb (h % 2) 0 z) (held _)
 
         pub part_length : n ≡ length (part_of M G h answer)
-        part_length = rw accepted (q ∙ sym (figures-long M G h))
+        part_length = rw accepted (q ∙ sym (figures-long A h))

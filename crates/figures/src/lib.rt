@@ -7,11 +7,13 @@ ghost use Rattle.folder.specs.Table.{outcome};
 ghost use Rattle.model.specs.Model.{model_of};
 ghost use Rattle.graph.specs.Simulation.{node_count, simulation_of};
 ghost use Rattle.graph.specs.Rules.{is_waiting};
-ghost use Rattle.graph.specs.Figures.{long_enough, round_rows, figure_rows, first_of, second_of, part_of, part_in_first};
+ghost use Rattle.graph.specs.Figures.{figure_rows, first_of, second_of, part_of, part_in_first};
 ghost use Rattle.graph.specs.Valid.{Valid};
 
 use folder::Outcome;
-use graph::{MOST_STEPS, WAITING};
+use graph::WAITING;
+
+const MOST_STEPS: usize = 10000;
 
 // Row 26: the lowest node that waits, or the node count.
 fn first_waiting(m: &[u8], g: &[u8]) -> usize
@@ -32,35 +34,6 @@ fn first_waiting(m: &[u8], g: &[u8]) -> usize
     i
 }
 
-// The first of the lent rows that is shorter than the nodes, by their lengths, or how many there are.
-fn first_short(nodes: usize, lengths: &[usize]) -> usize
-    ensures { result ≡ first_bad (long_enough nodes lengths.now) (length lengths.now) }
-{
-    let mut p = 0;
-    while p < lengths.len() {
-        if nodes <= lengths[p] {
-            p += 1;
-        } else {
-            return p;
-        }
-    }
-    p
-}
-
-// Rows 27 and 28, of so many nodes and lent rows of these lengths.
-pub fn rounds_check(nodes: usize, h: usize, lengths: &[usize]) -> Outcome
-    ensures { result ≡ outcome (round_rows nodes h lengths.now) }
-{
-    if MOST_STEPS < h {
-        return folder::refuse(27, 0);
-    }
-    let short = first_short(nodes, lengths);
-    if short < lengths.len() {
-        return folder::refuse(28, short);
-    }
-    Outcome::Accepted
-}
-
 // Rows 26 to 28 of rows of these lengths.
 fn rows_check(m: &[u8], g: &[u8], h: usize, first: usize, second: usize) -> Outcome
     requires { Valid m.now g.now }
@@ -71,8 +44,16 @@ fn rows_check(m: &[u8], g: &[u8], h: usize, first: usize, second: usize) -> Outc
     if waiting < n {
         return folder::refuse(26, waiting);
     }
-    let lengths = [first, second];
-    rounds_check(n, h, &lengths)
+    if MOST_STEPS < h {
+        return folder::refuse(27, 0);
+    }
+    if first < n {
+        return folder::refuse(28, 0);
+    }
+    if second < n {
+        return folder::refuse(28, 1);
+    }
+    Outcome::Accepted
 }
 
 // Rows 26 to 28.
@@ -94,8 +75,7 @@ pub fn figure_fill(m: &[u8], g: &[u8], h: usize, first: &mut [u32], second: &mut
     let o = rows_check(m, g, h, first.len(), second.len());
     match o {
         Outcome::Accepted => {
-            let r = rounds::upper(m);
-            rounds::run_rounds(m, g, r, h, first, second);
+            rounds::run_rounds(m, g, h, first, second);
             Outcome::Accepted
         }
         Outcome::Refused(f) => Outcome::Refused(f),

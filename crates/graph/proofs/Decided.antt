@@ -1,19 +1,21 @@
 -- The graph check accepts if and only if the folder and model rules hold, the graph starts at the initial state, and
 -- keeps A1 to C3 and the value rule.
 -- Assumes nothing.
-use Prim.Native.Nat.{ℕ, zero, suc, ◌+◌, ◌*◌, ◌/◌, ◌%◌, ◌^◌, ◌<◌, ◌≤◌}
-use native.Mathlib.Nat.{not-suc-le-zero, le_of_suc-le-suc}
+use Prim.Native.Nat.{ℕ, ◌+◌, ◌*◌, ◌/◌, ◌%◌, ◌^◌, ◌<◌, ◌≤◌}
 use mathlib.Core.Path.{◌≡◌, refl, ap}
 use mathlib.Core.Logic.{◌↔◌, ◌≢◌}
 use mathlib.Core.Bool.{true, false, false≢true}
-use mathlib.Core.List.{List, [], ◌∷◌, ◌++◌}
+use mathlib.Core.List.{List, ◌++◌}
 use native.Mathlib.Omega.{arith}
-use lib.ListN.{length, get_or}
+use lib.Dec.{eqb}
+use lib.ListN.{length}
+use Rattle.folder.specs.Pick.{pick}
 use lib.IntN.{ℤ, pos}
 use lib.Signed.{◌≤ℤ◌}
 use Rattle.mdp.specs.Graph.{along}
 use Rattle.folder.specs.Contents.{body}
 use Rattle.folder.specs.Tab.{tab, passing}
+use Rattle.folder.proofs.PickLaws.{pick_all}
 use Rattle.folder.proofs.Decides.{Decides, passes, fails, at_most, at_most_z, below, same, unless, whenever, either_way, always, ◌∧also◌, everywhere, reworded, same_lists}
 use Rattle.folder.proofs.TabLaws.{tab-same, same-tab}
 use Rattle.folder.proofs.ContentsLaws.{entry-decided as contents-decided}
@@ -37,7 +39,7 @@ use Rattle.graph.specs.Rules.{bytes_fit, nodes_fit, head_fits, values_fit, node_
 use Rattle.graph.specs.Table.{folder_rows, content_rows, first_rows, node_rules, rule_rows, graph_rows, graph_outcome}
 use Rattle.model.specs.Table.{model_rows}
 use Rattle.model.proofs.Decided.{model-asks}
-use Rattle.graph.specs.Figures.{round_rows, figure_rows, figure_outcome}
+use Rattle.graph.specs.Figures.{figure_rows, figure_outcome}
 use Rattle.graph.specs.Valid.{FigureRight, FolderRight, NodeRight, EdgeRight, StartsInitial, RightA1, RightA2, RightB1, Follows, RightB2, RightC3, RightC1, RightC2, RightValue, ContentRight, RulesRight, RowsRight, Valid}
 
 -- ---- the readings
@@ -267,27 +269,15 @@ pub refused-first : (m g : List ℕ) (f : Refusal) → graph_outcome m g ≡ Ref
 unfolding graph_outcome
 refused-first m g f e = refused-broken (model_rows m ++ graph_rows (model_of m) g) f e
 
--- Rows 27 and 28, of any number of lent rows: each place passes.
-pub rounds-ask : (nodes h : ℕ) (lengths : List ℕ)
-    → AllHold (round_rows nodes h lengths) ↔ ((h ≤ most_steps) × (((p : ℕ) → p < length lengths → nodes ≤ get_or lengths p 0) × Unit {0}))
-rounds-ask nodes h lengths = single-asks 27 0 (at_most h most_steps) row-and row-asks _ (λ p. at_most nodes (get_or lengths p 0)) row-and no_rows
-
--- Lent rows of which none is shorter than the nodes, one by one; and by their places.
-pub data AllLong (nodes : ℕ) : List ℕ → Type 0 where
-  none : AllLong nodes []
-  more : {x : ℕ} {xs : List ℕ} → nodes ≤ x → AllLong nodes xs → AllLong nodes (x ∷ xs)
-
-pub each_long : {nodes : ℕ} {xs : List ℕ} → AllLong nodes xs → (p : ℕ) → p < length xs → nodes ≤ get_or xs p 0
-each_long none p l = absurd (not-suc-le-zero l)
-each_long (more h t) zero l = h
-each_long (more h t) (suc p) l = each_long t p (le_of_suc-le-suc l)
-
 -- Rows 26 to 28.
 pub figure-asks : (G : Simulation) (h : ℕ) (first second : List ℕ) → AllHold (figure_rows G h first second) ↔ FigureRight G h first second
 figure-asks G h first second = put-so
-    (row-asks _ (λ n. unless (same (G.kind n) 0)) row-and rounds-ask G.nodes h (length first ∷ length second ∷ []))
+    (row-asks _ (λ n. unless (same (G.kind n) 0))
+    row-and single-asks 27 0 (at_most h most_steps)
+    row-and row-asks _ (λ p. at_most G.nodes (length (pick (eqb p 0) first second)))
+    row-and no_rows)
     (λ a. record { none-waits = a.0; few-steps = a.1.0; first-long = a.1.1.0 0 (omega arith); second-long = a.1.1.0 1 (omega arith) })
-    (λ r. (r.none-waits, (r.few-steps, (each_long (more r.first-long (more r.second-long none)), tt))))
+    (λ r. (r.none-waits, (r.few-steps, ((λ p l. pick_all (λ (row : List ℕ). G.nodes ≤ length row) (eqb p 0) r.first-long r.second-long), tt))))
 
 -- The figure call is accepted if and only if the graph is, no node waits, and h and both rows are within their limits.
 pub figure-valid : (m g : List ℕ) (h : ℕ) (first second : List ℕ)

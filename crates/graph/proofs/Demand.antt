@@ -7,8 +7,8 @@ use mathlib.Core.List.{List}
 use native.Mathlib.Omega.{arith}
 use Rattle.mdp.specs.Kinds.{Kind}
 use Rattle.mdp.specs.Graph.{figure}
-use Rattle.mdp.specs.Demand.{Demand3, TwoEnded}
-use Rattle.mdp.proofs.Demand.{demand, two-ended}
+use Rattle.mdp.specs.Demand.{Demand3}
+use Rattle.mdp.proofs.Demand.{demand}
 use Rattle.folder.specs.declared.Outcome.{Outcome}
 use Rattle.folder.specs.declared.Outcome.TheVariants as O
 use Rattle.folder.proofs.TabLaws.{length-tab, get_or-tab}
@@ -41,13 +41,8 @@ module _ (m g : List ℕ) (A : Valid m g) where
       (valued M A.model.model G A.rows.content A.rules) (initial_state M) (concrete_state M G) A.rows.folder.some (root-contains M A.model.model G A.rows.content A.rules A.rows.folder.some)
       (own M A.model.model G A.rows.content A.rules)
 
-  -- Two ends, of every node.
-  pub valid-two-ended : TwoEnded (mdp M) units (graph G) (concrete_state M G) G.value
-  valid-two-ended = two-ended (mdp M) (fair M A.model.model) (graph G) units (Contains M G) (labelled M A.model.model G A.rows.content A.rules) G.value
-      (valued M A.model.model G A.rows.content A.rules) (concrete_state M G) (own M A.model.model G A.rows.content A.rules)
-
   -- No node waits, by its kind's number.
-  pub none-waits : ((n : ℕ) → n < G.nodes → G.kind n ≢ 0) → (n : ℕ) → n < G.nodes → (graph G).kind n ≢ Kind.waiting
+  none-waits : ((n : ℕ) → n < G.nodes → G.kind n ≢ 0) → (n : ℕ) → n < G.nodes → (graph G).kind n ≢ Kind.waiting
   none-waits h n l e = h n l (kind-is (G.kind n) (A.rows.content.nodes n l).kind Kind.waiting e)
 
 -- ---- the graph check's answer

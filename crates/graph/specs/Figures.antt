@@ -1,6 +1,6 @@
 -- Document 01, "Figures": the figure call, rows 26 to 28 after the graph's, and the content of both rows.
 -- Assumes nothing.
-use Rattle.std.specs.Prelude.{ℕ, ◌-◌, ◌%◌, Bool, true, not, List, [], ◌∷◌, ◌++◌, length, get_or, drop, leb, eqb}
+use Rattle.std.specs.Prelude.{ℕ, ◌-◌, ◌%◌, Bool, true, not, List, [], ◌∷◌, ◌++◌, length, drop, leb, eqb}
 use Rattle.mdp.specs.Graph.{figure}
 use Rattle.folder.specs.Pick.{pick}
 use Rattle.folder.specs.Tab.{tab}
@@ -19,16 +19,12 @@ use Rattle.graph.specs.Table.{graph_rows}
 unfoldable pub figures : Model → Simulation → ℕ → List ℕ
 figures M G h = tab G.nodes (figure (mdp M) (graph G) units h)
 
--- The lent row at place p is not shorter than the nodes.
-abbrev pub long_enough : ℕ → List ℕ → ℕ → Bool
-long_enough nodes lengths p = leb nodes (get_or lengths p 0)
-
--- Rows 27 and 28, of so many nodes and lent rows of these lengths.
-abbrev pub round_rows : ℕ → ℕ → List ℕ → List Row
-round_rows nodes h lengths = single 27 0 (leb h most_steps) ∷ row 28 (length lengths) (long_enough nodes lengths) ∷ []
-
 abbrev pub figure_rows : Simulation → ℕ → List ℕ → List ℕ → List Row
-figure_rows G h first second = row 26 G.nodes (λ n. not (is_waiting G n)) ∷ round_rows G.nodes h (length first ∷ length second ∷ [])
+figure_rows G h first second =
+    row 26 G.nodes (λ n. not (is_waiting G n))
+    ∷ single 27 0 (leb h most_steps)
+    ∷ row 28 2 (λ p. leb G.nodes (length (pick (eqb p 0) first second)))
+    ∷ []
 
 -- What the figure call answers, and the call on the same arguments that writes nothing.
 unfoldable pub figure_outcome : List ℕ → List ℕ → ℕ → List ℕ → List ℕ → Outcome
@@ -43,22 +39,14 @@ in_first h = eqb (h % 2) 0
 abbrev pub over : List ℕ → List ℕ → List ℕ
 over figs row = figs ++ drop (length figs) row
 
--- What h rounds leave in two rows, round k being `rounds k`: the other row holds round h − 1, or is untouched at h = 0.
-module _ (rounds : ℕ → List ℕ) (h : ℕ) where
-  abbrev pub even_row : List ℕ → List ℕ
-  even_row row = pick (in_first h) (over (rounds h) row) (over (rounds (h - 1)) row)
-
-  abbrev pub odd_row : List ℕ → List ℕ
-  odd_row row = pick (eqb h 0) row (pick (in_first h) (over (rounds (h - 1)) row) (over (rounds h) row))
-
 module _ (M : Model) (G : Simulation) (h : ℕ) where
-  -- The rows at exit. Refused, both rows stay.
+  -- The rows at exit. The other row holds round h − 1, or is untouched at h = 0. Refused, both rows stay.
   abbrev pub first_of : Outcome → List ℕ → List ℕ
-  first_of Accepted first = even_row (figures M G) h first
+  first_of Accepted first = pick (in_first h) (over (figures M G h) first) (over (figures M G (h - 1)) first)
   first_of (Refused f) first = first
 
   abbrev pub second_of : Outcome → List ℕ → List ℕ
-  second_of Accepted second = odd_row (figures M G) h second
+  second_of Accepted second = pick (eqb h 0) second (pick (in_first h) (over (figures M G (h - 1)) second) (over (figures M G h) second))
   second_of (Refused f) second = second
 
   -- The part handed back holds the figures; refused, it is the empty part. It starts where the row does: the first row,

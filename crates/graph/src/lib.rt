@@ -29,9 +29,6 @@ pub const LEAST_BYTES: usize = 16;
 pub const MOST_BYTES: usize = 1048576;
 
 pub const MOST_NODES: usize = 4096;
-// Steps of a figure.
-pub const MOST_STEPS: usize = 10000;
-
 // Slots of the index.
 pub const SLOTS: usize = 8192;
 

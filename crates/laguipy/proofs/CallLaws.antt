@@ -4,7 +4,7 @@ use Prim.Native.Nat.{ℕ}
 use mathlib.Core.Path.{◌≡◌, refl, sym, ap, ◌∙◌}
 use mathlib.Core.List.{List, ◌++◌, append_assoc}
 use Rattle.folder.specs.Pick.{pick}
-use Rattle.folder.specs.Table.{Row, outcome}
+use Rattle.folder.specs.Table.{outcome}
 use Rattle.folder.specs.declared.Refusal.{Refusal}
 use Rattle.folder.specs.declared.Outcome.{Outcome}
 use Rattle.folder.specs.declared.Outcome.TheVariants.{Accepted, Refused}
@@ -34,28 +34,19 @@ pub answer-accepted : (m g : List ℕ) → graph_outcome m g ≡ Accepted → gr
 unfolding graph_answer
 answer-accepted m g e = rw e refl
 
--- ---- a call with rows of its own, after the graph check's outcome
-module _ (m g : List ℕ) (rows : List Row) where
-  regrouped : outcome (model_rows m ++ graph_rows (model_of m) g ++ rows) ≡ outcome ((model_rows m ++ graph_rows (model_of m) g) ++ rows)
-  regrouped = ap outcome (sym (append_assoc (model_rows m) (graph_rows (model_of m) g) rows))
-
-  pub graph-refused : (f : Refusal) → graph_outcome m g ≡ Refused f → outcome (model_rows m ++ graph_rows (model_of m) g ++ rows) ≡ Refused f
-  unfolding graph_outcome
-  graph-refused f e = regrouped ∙ refused-then (model_rows m ++ graph_rows (model_of m) g) rows f e
-
-  pub goes_on : graph_outcome m g ≡ Accepted → outcome (model_rows m ++ graph_rows (model_of m) g ++ rows) ≡ outcome rows
-  unfolding graph_outcome
-  goes_on e = regrouped ∙ accepted-then (model_rows m ++ graph_rows (model_of m) g) rows e
-
--- ---- the figure call
+-- ---- the figure call, after the graph check's outcome
 module _ (m g : List ℕ) (h : ℕ) (first second : List ℕ) where
-  pub figure-graph-refused : (f : Refusal) → graph_outcome m g ≡ Refused f → figure_outcome m g h first second ≡ Refused f
+  figure-rows-after : figure_outcome m g h first second ≡ outcome ((model_rows m ++ graph_rows (model_of m) g) ++ figure_rows (simulation_of (model_of m) g) h first second)
   unfolding figure_outcome
-  figure-graph-refused = graph-refused m g (figure_rows (simulation_of (model_of m) g) h first second)
+  figure-rows-after = ap outcome (sym (append_assoc (model_rows m) (graph_rows (model_of m) g) (figure_rows (simulation_of (model_of m) g) h first second)))
+
+  pub figure-graph-refused : (f : Refusal) → graph_outcome m g ≡ Refused f → figure_outcome m g h first second ≡ Refused f
+  unfolding graph_outcome
+  figure-graph-refused f e = figure-rows-after ∙ refused-then (model_rows m ++ graph_rows (model_of m) g) (figure_rows (simulation_of (model_of m) g) h first second) f e
 
   pub figure-goes-on : graph_outcome m g ≡ Accepted → figure_outcome m g h first second ≡ outcome (figure_rows (simulation_of (model_of m) g) h first second)
-  unfolding figure_outcome
-  figure-goes-on = goes_on m g (figure_rows (simulation_of (model_of m) g) h first second)
+  unfolding graph_outcome
+  figure-goes-on e = figure-rows-after ∙ accepted-then (model_rows m ++ graph_rows (model_of m) g) (figure_rows (simulation_of (model_of m) g) h first second) e
 
   -- ---- what it leaves, by its outcome
   module _ {o : Outcome} (e : figure_outcome m g h first second ≡ o) where

@@ -1,11 +1,8 @@
--- The cases for proof hold: one fact, which the checker computes. Demand 3 of the pedal example is one instance, and what
--- 2.7 claims is one of the example with a node waiting.
+-- The cases for proof hold: one fact, which the checker computes. Demand 3 of the pedal example is one instance.
 -- Assumes nothing.
-use Prim.Native.Nat.{ℕ, ◌≤◌}
+use Prim.Native.Nat.{ℕ}
 use mathlib.Core.Path.{◌≡◌, refl, ap}
 use mathlib.Core.List.{List, [], ◌∷◌, map}
-use native.Mathlib.Omega.{arith}
-use lib.ListN.{drop, replicate}
 use Rattle.mdp.specs.Graph.{round}
 use Rattle.folder.specs.Fields.{u16, u32, signed16}
 use Rattle.folder.specs.Contents.{due_start, entry_ok, body, count_of, field, field4}
@@ -22,33 +19,27 @@ use Rattle.expressions.specs.Combinations.{product_of, width_of, choices, combin
 use Rattle.expressions.specs.States.{number_by_all, truth_by_all, number_read, truth_read}
 use Rattle.expressions.specs.Rules.{depth_of, number_fits, truth_fits, entry_fits, range_fits}
 use Rattle.model.specs.Layout.{record_size, record_count}
-use Rattle.model.specs.Model.{model_of, bound}
+use Rattle.model.specs.Model.{bound}
 use Rattle.model.specs.Rules.{records_fit, variable_fits, terms_fit, command_fits, records_add_up, assigned_fits, branch_fits, weights_total}
 use Rattle.model.specs.Chances.{next}
 use Rattle.model.specs.Step as Step
 use Rattle.model.specs.Pedal.{pedal_model}
-use Rattle.graph.specs.Limits.{most_steps}
-use Rattle.graph.specs.Simulation.{simulation_of, edge_size, edge_after, edges_start, edge_whole, edge_at, kind_of}
+use Rattle.graph.specs.Simulation.{edge_size, edge_after, edges_start, edge_whole, edge_at, kind_of}
 use Rattle.graph.specs.Rules.{nodes_fit, head_fits, values_fit, node_fits, edge_fits, edges_fit, root_fits, A1, A2, B1, result_is, label_follows, follows, edge_follows, B2, C3, C1, C2, value_rule}
 use Rattle.graph.specs.Seconds.{second19, second_of, second21}
-use Rattle.graph.specs.Table.{graph_outcome, graph_answer, summary}
+use Rattle.graph.specs.Table.{graph_outcome, graph_answer}
 use Rattle.graph.specs.Figures.{figures, figure_outcome, figure_part}
-use Rattle.laguipy.specs.Cases.{Case, Told, checked, figured, stepped, waiting_graph, cases}
+use Rattle.laguipy.specs.Cases.{Case, Told, checked, figured, stepped, cases}
 use Rattle.graph.specs.Pedal.{pedal_graph}
 use Rattle.graph.specs.Demand.{Bounds}
 use Rattle.graph.specs.declared.Summary.{Summary}
 use Rattle.graph.specs.declared.GraphAnswer.{GraphAnswer}
 use Rattle.graph.specs.declared.GraphAnswer.TheVariants.{Accepted, Refused}
-use Rattle.graph.proofs.Decided.{accepted-valid}
-use Rattle.graph.proofs.Demand.{demand-3, answer-is}
-use Rattle.ends.specs.Ends.{lowers}
-use Rattle.ends.specs.Given.{EndsGiven}
-use Rattle.ends.proofs.Decided.{ends-valid}
-use Rattle.ends.proofs.Given.{ends-demand}
+use Rattle.graph.proofs.Demand.{demand-3}
 
 -- All that the calls are defined by, opened.
 unfoldable computing : ℕ
-unfolding u16 u32 signed16 due_start entry_ok body count_of field field4 first_bad tab passing same_list outcome all_rules first_broken number_form_of truth_form_of number_form truth_form is_number is_truth number_at truth_at min_z max_z eq_z read_number read_truth product_of width_of choices combinations left_of value_in combination number_by_all truth_by_all number_read truth_read range_of inside depth_of number_fits truth_fits entry_fits range_fits record_size record_count bound records_fit variable_fits terms_fit command_fits records_add_up assigned_fits branch_fits weights_total next Step.value_fits Step.step_outcome Step.step_row edge_size edge_after edges_start edge_whole edge_at kind_of has_bit look_in nodes_fit head_fits values_fit node_fits edge_fits edges_fit root_fits A1 A2 B1 result_is label_follows follows edge_follows B2 union mentions missing second19 second_of second21 C3 C1 C2 value_rule graph_outcome graph_answer round figures figure_outcome figure_part lowers
+unfolding u16 u32 signed16 due_start entry_ok body count_of field field4 first_bad tab passing same_list outcome all_rules first_broken number_form_of truth_form_of number_form truth_form is_number is_truth number_at truth_at min_z max_z eq_z read_number read_truth product_of width_of choices combinations left_of value_in combination number_by_all truth_by_all number_read truth_read range_of inside depth_of number_fits truth_fits entry_fits range_fits record_size record_count bound records_fit variable_fits terms_fit command_fits records_add_up assigned_fits branch_fits weights_total next Step.value_fits Step.step_outcome Step.step_row edge_size edge_after edges_start edge_whole edge_at kind_of has_bit look_in nodes_fit head_fits values_fit node_fits edge_fits edges_fit root_fits A1 A2 B1 result_is label_follows follows edge_follows B2 union mentions missing second19 second_of second21 C3 C1 C2 value_rule graph_outcome graph_answer round figures figure_outcome figure_part
 computing = 0
 
 pub cases-hold : map (λ (c : Case). c.told) cases ≡ map (λ (c : Case). c.due) cases
@@ -70,33 +61,3 @@ pedal-accepted = ap answer-told cases-hold
 
 pub pedal-bounds : Bounds pedal_model pedal_graph pedal_summary
 pedal-bounds = (demand-3 pedal_model pedal_graph).0 pedal_summary pedal-accepted
-
--- What 2.7 claims is not empty, of a graph that is not finished: the pedal example with node 5 waiting is accepted, and so
--- for every h to 10,000 the best chances lie between its ends, which differ.
-abbrev waiting_summary : Summary
-waiting_summary = record { root = 10000000; waiting = 1; expanded = 3; covered = 2; target = 0 }
-
-waiting-accepted : graph_answer pedal_model waiting_graph ≡ Accepted waiting_summary
-waiting-accepted = ap (λ (ts : List Told). answer-told (drop 8 ts)) cases-hold
-
-waiting-nodes : (simulation_of (model_of pedal_model) waiting_graph).nodes ≡ 6
-unfolding computing
-waiting-nodes = refl
-
-abbrev zeros : List ℕ
-zeros = replicate 6 0
-
-pub waiting-ends : (h : ℕ) → h ≤ most_steps → EndsGiven pedal_model waiting_graph h zeros zeros zeros zeros
-unfolding graph_answer
-waiting-ends h l =
-    let a = (answer-is (graph_outcome pedal_model waiting_graph) (summary (simulation_of (model_of pedal_model) waiting_graph)) waiting_summary waiting-accepted).0 in
-    let n = waiting-nodes in
-    ends-demand pedal_model waiting_graph h zeros zeros zeros zeros ((ends-valid pedal_model waiting_graph h zeros zeros zeros zeros).1 (
-      (accepted-valid pedal_model waiting_graph).0 a,
-      record { few-steps = l; first-long = omega (arith, n); second-long = omega (arith, n); third-long = omega (arith, n); fourth-long = omega (arith, n) },
-    ))
-
-pub waiting-units : (lowers (model_of pedal_model) (simulation_of (model_of pedal_model) waiting_graph) 2 ≡ zeros)
-    × (figures (model_of pedal_model) (simulation_of (model_of pedal_model) waiting_graph) 2 ≡ (10000000 ∷ 0 ∷ 100000000 ∷ 10000000 ∷ 0 ∷ 1000000000 ∷ []))
-unfolding computing
-waiting-units = (refl, refl)

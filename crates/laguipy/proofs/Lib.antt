@@ -1,5 +1,4 @@
 pub mod Cases
 pub mod CallLaws
 mod IndexLaws
-mod EndsLaws
 pub mod BuildLaws

@@ -52,10 +52,6 @@ refuses n p = refuses_at n p 0
 abbrev pub pedal_with : ℕ → List ℕ → List ℕ
 pedal_with n r = graph_folder (set pedal_nodes n r) pedal_edges
 
--- The pedal graph with node 5 waiting.
-abbrev pub waiting_graph : List ℕ
-waiting_graph = pedal_with 5 (node 0 0 1000000000 0 1 (2 ∷ 0 ∷ []) (2 ∷ 0 ∷ []))
-
 -- D 3: a in 0..2, initially 0; target a = 1. Command 0, a = 0: 1: a' = 1; 2: a' = 2.
 abbrev pub third_model : List ℕ
 third_model =
@@ -127,8 +123,8 @@ cases =
     ∷ check pedal_model (pedal_with 3 (node 2 4 10000000 0 1 (0 ∷ 1 ∷ []) (0 ∷ 0 ∷ []))) is refuses 22 3
     ∷ check pedal_model (pedal_with 3 (node 2 3 10000000 0 1 (0 ∷ 1 ∷ []) (0 ∷ 0 ∷ []))) is refuses 22 3
     -- node 5 waiting: accepted; figure 26 at 5
-    ∷ check pedal_model waiting_graph is accepts 10000000 3 2 0 1
-    ∷ figures_of pedal_model waiting_graph 3 is figured (refused 26 5) []
+    ∷ check pedal_model (pedal_with 5 (node 0 0 1000000000 0 1 (2 ∷ 0 ∷ []) (2 ∷ 0 ∷ []))) is accepts 10000000 3 2 0 1
+    ∷ figures_of pedal_model (pedal_with 5 (node 0 0 1000000000 0 1 (2 ∷ 0 ∷ []) (2 ∷ 0 ∷ []))) 3 is figured (refused 26 5) []
     -- node 0 tracks nothing: the first guard lacks a
     ∷ check pedal_model (pedal_with 0 (node 1 0 10000000 2 0 (0 ∷ 0 ∷ []) (0 ∷ 0 ∷ []))) is refuses_at 19 0 0
     -- node 0 without its second edge

@@ -10,10 +10,8 @@ ghost use Rattle.graph.specs.Table.{graph_outcome, graph_answer};
 ghost use Rattle.index.specs.Index.{index_answer, slots_row, answers_row, listing_row};
 ghost use Rattle.assembly.specs.Build.{build_answer, built_slice};
 ghost use Rattle.graph.specs.Figures.{figure_outcome, first_row, second_row, figure_part, figure_in_first};
-ghost use Rattle.ends.specs.Ends.{ends_answer, ends_first, ends_second, ends_third, ends_fourth};
 
 use assembly::BuildAnswer;
-use ends::EndsAnswer;
 use folder::Outcome;
 use graph::{GraphAnswer, Summary};
 use index::IndexAnswer;
@@ -107,30 +105,6 @@ pub fn figure<'a>(
     match o {
         Outcome::Refused(_) => &mut first[..0],
         Outcome::Accepted => figures::figure_part(model, graph, h, first, second),
-    }
-}
-
-// The two-ended figure of the root, waiting nodes or not: upper rounds in the first two rows, lower ones in the others, and
-// the root's figure of round h in both as chances.
-pub fn ends(
-    model: &[u8],
-    graph: &[u8],
-    h: usize,
-    first: &mut [u32],
-    second: &mut [u32],
-    third: &mut [u32],
-    fourth: &mut [u32],
-) -> EndsAnswer
-    ensures value { result ≡ ends_answer model.now graph.now h first.old second.old third.old fourth.old }
-    ensures first_after { first.new ≡ ends_first model.now graph.now h first.old second.old third.old fourth.old }
-    ensures second_after { second.new ≡ ends_second model.now graph.now h first.old second.old third.old fourth.old }
-    ensures third_after { third.new ≡ ends_third model.now graph.now h first.old second.old third.old fourth.old }
-    ensures fourth_after { fourth.new ≡ ends_fourth model.now graph.now h first.old second.old third.old fourth.old }
-{
-    let o = graph_outcome(model, graph);
-    match o {
-        Outcome::Refused(f) => ends::refused(f),
-        Outcome::Accepted => ends::ends_fill(model, graph, h, first, second, third, fourth),
     }
 }
 

@@ -9,7 +9,8 @@ use Rattle.folder.specs.declared.Outcome.TheVariants.{Accepted, Refused}
 use Rattle.model.specs.Model.{model_of}
 use Rattle.graph.specs.Simulation.{simulation_of}
 use Rattle.graph.specs.Figures.{figure_outcome, figure_part, figure_in_first, in_first}
-use Rattle.rounds.proofs.UpperLaws.{figures-long}
+use Rattle.graph.proofs.Decided.{figure-valid}
+use Rattle.rounds.proofs.FigureLaws.{figures-long}
 use Rattle.laguipy_c.specs.Answers.{figure_place}
 
 module _ (m g : List ℕ) (h : ℕ) (first second : List ℕ) where
@@ -22,4 +23,6 @@ module _ (m g : List ℕ) (h : ℕ) (first second : List ℕ) where
       → row ≡ pick (in_first h) 0 1 → count ≡ (simulation_of (model_of m) g).nodes
       → (row ∷ count ∷ []) ≡ figure_place m g h first second
   unfolding figure_part figure_in_first
-  all-stand e p q = rw (e, p, q, figures-long (model_of m) (simulation_of (model_of m) g) h) refl
+  all-stand e p q =
+      let v = ((figure-valid m g h first second).0 e).0 in
+      rw (e, p, q, figures-long v h) refl

@@ -10,7 +10,6 @@ ghost use Rattle.model.specs.View.{view_start};
 ghost use Rattle.model.specs.Step.{step_outcome, step_row};
 ghost use Rattle.graph.specs.Table.{graph_answer, answer_number, answer_places, answer_values};
 ghost use Rattle.graph.specs.Figures.{figure_outcome, in_first, first_row, second_row};
-ghost use Rattle.ends.specs.Ends.{ends_answer, ends_number, ends_places, ends_pair, ends_first, ends_second, ends_third, ends_fourth};
 ghost use Rattle.assembly.specs.Build.{build_answer, built_slice, build_number, build_places, build_length};
 ghost use Rattle.index.specs.Index.{index_answer, slots_row, answers_row, listing_row, index_number, index_places, index_listed};
 ghost use Rattle.laguipy_c.specs.Answers.{view_place, figure_place};
@@ -207,35 +206,6 @@ pub extern "C" fn laguipy_figure(
             f.number
         }
     }
-}
-
-// The two-ended figure of the root: the low end first.
-#[unsafe(no_mangle)]
-pub extern "C" fn laguipy_ends(
-    model: &[u8],
-    graph: &[u8],
-    h: usize,
-    first: &mut [u32],
-    second: &mut [u32],
-    third: &mut [u32],
-    fourth: &mut [u32],
-    place: &mut [usize; 2],
-    ends: &mut [f64; 2],
-) -> usize
-    ensures value { result ≡ ends_number (ends_answer model.now graph.now h first.old second.old third.old fourth.old) }
-    ensures first_after { first.new ≡ ends_first model.now graph.now h first.old second.old third.old fourth.old }
-    ensures second_after { second.new ≡ ends_second model.now graph.now h first.old second.old third.old fourth.old }
-    ensures third_after { third.new ≡ ends_third model.now graph.now h first.old second.old third.old fourth.old }
-    ensures fourth_after { fourth.new ≡ ends_fourth model.now graph.now h first.old second.old third.old fourth.old }
-    ensures place_after { place.new ≡ ends_places (ends_answer model.now graph.now h first.old second.old third.old fourth.old) }
-    ensures ends_after { ends.new ≡ ends_pair (ends_answer model.now graph.now h first.old second.old third.old fourth.old) }
-{
-    let a = laguipy::ends(model, graph, h, first, second, third, fourth);
-    let o = a.outcome;
-    let e = a.ends;
-    *place = places_of(o);
-    *ends = [e.low, e.high];
-    number_of(o)
 }
 
 fn index_number(a: IndexAnswer) -> usize

@@ -1,6 +1,6 @@
 -- A node of an accepted graph, as the code reads it: it is set to the definition's value, which is at most certainty.
 -- Assumes nothing.
-use Prim.Native.Nat.{ℕ, ◌-◌, ◌≤◌, ◌<◌}
+use Prim.Native.Nat.{ℕ, ◌≤◌, ◌<◌}
 use native.Mathlib.Decide.{ℕ_discrete}
 use native.Mathlib.Omega.{arith}
 use mathlib.Core.Path.{◌≡◌, refl, sym, ◌∙◌}
@@ -22,7 +22,7 @@ use Rattle.graph.specs.Valid.{Valid}
 use Rattle.graph.specs.Walks.{starts_at}
 use Rattle.sums.specs.Edges.{best_of}
 use Rattle.sums.specs.Tables.{Tables, Round}
-use Rattle.sums.proofs.EdgeLaws.{average-small}
+use Rattle.sums.proofs.EdgeLaws.{up_small}
 use Rattle.sums.proofs.ModelLaws.{best-is, best-small}
 use Rattle.sums.proofs.NodeLaws.{Parts, some-total}
 use Rattle.building.specs.Values.{least_value}
@@ -59,7 +59,7 @@ module _ {m g : List ℕ} (A : Valid m g) where
   least-small row R n l =
       rw (least-is M G (λ k. get_or row k 0) n)
       (pick_all (λ (x : ℕ). x ≤ units) (eqb (G.kind n) 1)
-      (omega (arith, average-small M.total (M.total - 1) (greatest (G.edges n) (λ e _. along (mdp M) (graph G) (λ k. get_or row k 0) n e)) units (omega (arith, some-total A)) (best-small m g A.model.model n (A.rows.content.edges n l) row R)))
+      (omega (arith, up_small M.total (greatest (G.edges n) (λ e _. along (mdp M) (graph G) (λ k. get_or row k 0) n e)) units (some-total A) (best-small m g A.model.model n (A.rows.content.edges n l) row R)))
       (R.small (source G n) (source_in n l)))
 
   module _ {size d : ℕ} {cs nb eb : List ℕ} (P : Parts m g size d cs nb eb) where

@@ -38,7 +38,7 @@ fn value_by(kind: usize, best: usize, d: usize, taken: u32) -> u32
     ensures { result ≡ pick (eqb kind 1) (rounded_up best d) taken }
 {
     if kind == EXPANDED {
-        sums::average(best, d - 1, d)
+        sums::figure_by(kind, best, d)
     } else {
         taken
     }

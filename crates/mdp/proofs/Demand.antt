@@ -1,12 +1,12 @@
--- Demand 3 and the claims of two ends hold of whatever satisfies the rules.
+-- Demand 3 holds of whatever satisfies the rules.
 -- Assumes nothing.
 use Prim.Native.Nat.{ℕ, ◌<◌}
 use Rattle.mdp.specs.Mdp.{Mdp, Fair, alone}
 use Rattle.mdp.specs.Graph.{Graph, Labelled, Valued}
-use Rattle.mdp.specs.Demand.{Demand3, TwoEnded}
+use Rattle.mdp.specs.Demand.{Demand3}
 use Rattle.mdp.proofs.Best.{Q≤P, best-reached}
 use Rattle.mdp.proofs.Bound.{strategy-bound}
-use Rattle.mdp.proofs.Figures.{figure-above, figure-near, lower-below, ends-ordered, ends-near, figure-within}
+use Rattle.mdp.proofs.Figures.{figure-above, figure-near}
 
 module _ (M : Mdp) (F : Fair M) (G : Graph) (S : ℕ) (In : ℕ → M.State → Type 0) (L : Labelled M G In) (value : ℕ → ℕ) (R : Valued M G S value) where
   pub demand : (initial : M.State) (concrete : ℕ → M.State) → 0 < G.nodes → In 0 initial → ((n : ℕ) → n < G.nodes → In n (concrete n))
@@ -19,15 +19,4 @@ module _ (M : Mdp) (F : Fair M) (G : Graph) (S : ℕ) (In : ℕ → M.State → 
       none_above = λ σ. Q≤P M σ h (alone (concrete n));
       reached = best-reached M h (concrete n);
     };
-  }
-
-  pub two-ended : (concrete : ℕ → M.State) → ((n : ℕ) → n < G.nodes → In n (concrete n)) → TwoEnded M S G concrete value
-  two-ended concrete own = record {
-    fit = λ h n l. record {
-      not-above = lower-below M F G S In L h n l (concrete n) (own n l);
-      not-below = figure-above M F G S In L h n l (concrete n) (own n l);
-    };
-    ordered = λ h n l. ends-ordered M F G S In L h n l (concrete n) (own n l);
-    within-value = figure-within M F G S In L value R;
-    close = λ none h n l. ends-near M F G S In L none h n l (concrete n) (own n l);
   }

@@ -1,7 +1,7 @@
--- The figures, which are the upper rounds, and the lower rounds.
+-- The figures.
 -- Assumes nothing.
-use Prim.Native.Nat.{ℕ, zero, suc, ◌+◌, ◌*◌, ◌^◌, ◌≤◌, ◌<◌}
-use native.Mathlib.Nat.{le_trans, pow-suc, pow-zero, mul-le-mul_left, mul-le-mul_right, le_of_mul-le-mul_right, one-le-pow}
+use Prim.Native.Nat.{ℕ, zero, suc, ◌+◌, ◌*◌, ◌^◌, ◌-◌, ◌≤◌, ◌<◌}
+use native.Mathlib.Nat.{le_trans, pow-suc, pow-zero, mul-le-mul_left, mul-le-mul_right, div-mul-le_self, lt-div-mul-add}
 use native.Mathlib.Omega.{arith}
 use mathlib.Core.Path.{◌≡◌, refl, sym}
 use mathlib.Core.Logic.{◌≢◌}
@@ -9,9 +9,8 @@ use mathlib.Core.Bool.{true}
 use Rattle.mdp.specs.Sums.{greatest, if◌then◌else◌}
 use Rattle.mdp.specs.Mdp.{Mdp, Fair, P, weighing}
 use Rattle.mdp.specs.Kinds.{Kind}
-use Rattle.mdp.specs.Graph.{Graph, along, IsExpanded, Labelled, Valued, again, shared, round, up, down, figure, lower}
+use Rattle.mdp.specs.Graph.{Graph, along, IsExpanded, Labelled, again, shared, round, up, figure}
 use Rattle.mdp.proofs.SumLaws.{greatest-above, greatest-below}
-use Rattle.mdp.proofs.Rounding.{up-enough, up-close, up_least, down-enough, down-close}
 use Rattle.mdp.proofs.Best.{weighed-fair, weighing-le-best}
 use Rattle.mdp.proofs.Cases.{Holds, each-node}
 use Rattle.mdp.proofs.Bound.{Above, above}
@@ -102,41 +101,32 @@ module _ (M : Mdp) (G : Graph) (S : ℕ) where
     near zero = by_cases zero (λ n l e s i. rw (B.starts n l e) (omega arith))
     near (suc k) = by_cases (suc k) (λ n l e s i. near-expanded k n l e s i (near k))
 
+-- Rounding up loses nothing, and adds less than D.
+module _ (M : Mdp) (G : Graph) (S : ℕ) (p : 0 < M.total) where
+  open M use {total as D}
+
+  up-enough : (x : ℕ) → x ≤ D * up M G S x
+  up-enough x = omega (arith, lt-div-mul-add {a = x + (D - 1)} p)
+
+  up-close : (x : ℕ) → up M G S x * D ≤ x + 1 * D
+  up-close x = omega (arith, div-mul-le_self (x + (D - 1)) D)
+
 module _ (M : Mdp) (F : Fair M) (G : Graph) (S : ℕ) (In : ℕ → M.State → Type 0) (L : Labelled M G In) where
   open M use {State, total as D}
-  open G use {nodes, kind, cover, edges, command, successor}
+  open G use {nodes, kind, edges}
 
-  -- ---- both ends, whether nodes wait or not
   figures-above : Above M G S (figure M G S)
   figures-above = record {
     waitings = λ k n l e. omega (arith, round-waiting M G S S (up M G S) k n e);
     targets = λ k n l e. omega (arith, round-target M G S S (up M G S) k n e);
     covereds = λ k n l e. omega (arith, round-covered M G S S (up M G S) k n e (L.covereds n l e).open-cover);
-    expandeds = λ k n l e j h. rw (round-suc M G S S (up M G S) k n e) (le_trans (greatest-above (edges n) (along M G (figure M G S k) n) j h) (up-enough _ D F.positive));
+    expandeds = λ k n l e j h. rw (round-suc M G S S (up M G S) k n e) (le_trans (greatest-above (edges n) (along M G (figure M G S k) n) j h) (up-enough M G S F.positive _));
   }
 
-  -- The figure is never below the best chance.
+  -- The figure is never below the best chance, whether nodes wait or not.
   pub figure-above : (k n : ℕ) → n < nodes → (s : State) → In n s → S * P M k s ≤ figure M G S k n * D ^ k
   figure-above = above M G S F In L (figure M G S) figures-above
 
-  lowers-below : Below M G S 0 (lower M G S)
-  lowers-below = record {
-    waitings = λ k n l e. round-waiting M G S 0 (down M G S) k n e;
-    targets = λ k n l e. round-target M G S 0 (down M G S) k n e;
-    covereds = λ k n l e. round-covered M G S 0 (down M G S) k n e (L.covereds n l e).open-cover;
-    starts = λ n l e. round-zero M G S 0 (down M G S) n e;
-    expandeds = λ k n l e. rw (round-suc M G S 0 (down M G S) k n e) (down-close _ D F.positive);
-  }
-
-  -- The lower figure is never above it.
-  pub lower-below : (k n : ℕ) → n < nodes → (s : State) → In n s → lower M G S k n * D ^ k ≤ S * P M k s
-  lower-below k n l s i = omega (arith, near M G S F In L 0 (lower M G S) lowers-below k n l s i)
-
-  -- So the lower one is never above the upper one.
-  pub ends-ordered : (k n : ℕ) → n < nodes → (s : State) → In n s → lower M G S k n ≤ figure M G S k n
-  ends-ordered k n l s i = le_of_mul-le-mul_right {k = D ^ k} (le_trans (lower-below k n l s i) (figure-above k n l s i)) (one-le-pow k D F.positive)
-
-  -- ---- with no node waiting
   module _ (none : (n : ℕ) → n < nodes → kind n ≢ Kind.waiting) where
     figures-below : Below M G S 1 (figure M G S)
     figures-below = record {
@@ -144,67 +134,9 @@ module _ (M : Mdp) (F : Fair M) (G : Graph) (S : ℕ) (In : ℕ → M.State → 
       targets = λ k n l e. round-target M G S S (up M G S) k n e;
       covereds = λ k n l e. round-covered M G S S (up M G S) k n e (L.covereds n l e).open-cover;
       starts = λ n l e. round-zero M G S S (up M G S) n e;
-      expandeds = λ k n l e. rw (round-suc M G S S (up M G S) k n e) (up-close _ D F.positive);
+      expandeds = λ k n l e. rw (round-suc M G S S (up M G S) k n e) (up-close M G S F.positive _);
     }
 
-    -- The figure exceeds the best chance by at most a unit for each round.
+    -- With no node waiting, the figure exceeds the best chance by at most a unit for each round.
     pub figure-near : (k n : ℕ) → n < nodes → (s : State) → In n s → figure M G S k n * D ^ k ≤ S * P M k s + k * D ^ k
     figure-near k n l s i = omega (arith, near M G S F In L 1 (figure M G S) figures-below k n l s i)
-
-    -- A unit more for each round, and the lower rounds keep the value rule from round to round.
-    lowers-above : Above M G S (λ k n. lower M G S k n + k)
-    lowers-above = record {
-      waitings = λ k n l e. absurd (none n l e);
-      targets = λ k n l e. omega (arith, round-target M G S 0 (down M G S) k n e);
-      covereds = λ k n l e. omega (arith, round-covered M G S 0 (down M G S) k n e (L.covereds n l e).open-cover);
-      expandeds = λ k n l e j h. rw (round-suc M G S 0 (down M G S) k n e) (omega (
-        arith,
-        greatest-above (edges n) (along M G (lower M G S k) n) j h,
-        down-enough (greatest (edges n) (λ i _. along M G (lower M G S k) n i)) D F.positive,
-        weighed-fair M F (command n j) ((L.expandeds n l e).known j h) (λ b _. lower M G S k (successor n j b) + k) (λ b _. lower M G S k (successor n j b)) 1 1 k (λ b p. omega arith),
-      ));
-    }
-
-    lower-near : (k n : ℕ) → n < nodes → (s : State) → In n s → S * P M k s ≤ (lower M G S k n + k) * D ^ k
-    lower-near = above M G S F In L (λ k n. lower M G S k n + k) lowers-above
-
-    -- The two ends differ by at most two units for each round.
-    pub ends-near : (k n : ℕ) → n < nodes → (s : State) → In n s → figure M G S k n ≤ lower M G S k n + 2 * k
-    ends-near k n l s i = le_of_mul-le-mul_right {k = D ^ k} (omega (arith, figure-near k n l s i, lower-near k n l s i)) (one-le-pow k D F.positive)
-
-  -- ---- values that keep the value rule are no smaller than the figures: a node that waits counts as certain in both
-  module _ (value : ℕ → ℕ) (R : Valued M G S value) where
-    abbrev Within : ℕ → ℕ → Type 0
-    Within k n = figure M G S k n ≤ value n
-
-    abbrev Expandeds : ℕ → Type 0
-    Expandeds k = (n : ℕ) → n < nodes → kind n ≡ Kind.expanded → Within k n
-
-    by_kind : (k : ℕ) → Expandeds k → (n : ℕ) → n < nodes → (κ : Kind) → kind n ≡ κ → (κ ≡ Kind.covered → Within k n) → Within k n
-    by_kind k x n l Kind.waiting e c = omega (arith, round-waiting M G S S (up M G S) k n e, R.waitings n l e)
-    by_kind k x n l Kind.expanded e c = x n l e
-    by_kind k x n l Kind.covered e c = c refl
-    by_kind k x n l Kind.target e c = omega (arith, round-target M G S S (up M G S) k n e, R.targets n l e)
-
-    -- A covered node by its cover, which is not covered.
-    by-cover : (k : ℕ) → Expandeds k → (n : ℕ) → n < nodes → kind n ≡ Kind.covered → Within k n
-    by-cover k x n l e =
-        let C = L.covereds n l e in
-        let b : Within k (cover n) = by_kind k x (cover n) C.known (kind (cover n)) refl (λ f. absurd (C.open-cover f)) in
-        omega (arith, b, round-covered M G S S (up M G S) k n e C.open-cover, R.covereds n l e)
-
-    each : (k : ℕ) → Expandeds k → (n : ℕ) → n < nodes → Within k n
-    each k x n l = by_kind k x n l (kind n) refl (by-cover k x n l)
-
-    along-within : (k : ℕ) → ((n : ℕ) → n < nodes → Within k n) → (n : ℕ) → n < nodes → kind n ≡ Kind.expanded → (j : ℕ) → j < edges n → 1 * along M G (figure M G S k) n j ≤ D * value n
-    along-within k below n l e j h = omega (
-      arith,
-      R.expandeds n l e j h,
-      weighed-fair M F (command n j) ((L.expandeds n l e).known j h) (λ b _. figure M G S k (successor n j b)) (λ b _. value (successor n j b)) 1 1 0
-          (λ b p. omega (arith, below (successor n j b) ((L.expandeds n l e).leads j h b p))),
-    )
-
-    pub figure-within : (k n : ℕ) → n < nodes → figure M G S k n ≤ value n
-    figure-within zero = each zero (λ n l e. omega (arith, round-zero M G S S (up M G S) n e))
-    figure-within (suc k) = each (suc k) (λ n l e. rw (round-suc M G S S (up M G S) k n e)
-        (up_least _ D F.positive (value n) (omega (arith, greatest-below 1 (edges n) _ (D * value n) (along-within k (figure-within k) n l e)))))

@@ -1,6 +1,5 @@
 pub mod SumLaws
 pub mod SumLoop
-pub mod Rounding
 pub mod Best
 pub mod Cases
 pub mod Bound

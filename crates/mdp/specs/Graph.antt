@@ -1,7 +1,6 @@
--- Simulation graphs: what the rules on labels give, the value rule, document 01's "Figures", and document 02's lower
--- rounds (2.7).
+-- Simulation graphs: what the rules on labels give, the value rule, and document 01's "Figures".
 -- Assumes nothing.
-use Rattle.std.specs.Prelude.{ℕ, zero, suc, ◌*◌, ◌/◌, ◌≤◌, ◌<◌, ◌≡◌, ◌≢◌, true, false}
+use Rattle.std.specs.Prelude.{ℕ, zero, suc, ◌*◌, ◌≤◌, ◌<◌, ◌≡◌, ◌≢◌, true, false}
 use Rattle.mdp.specs.Sums.{sum, greatest, rounded_up}
 use Rattle.mdp.specs.Mdp.{Mdp}
 use Rattle.mdp.specs.Kinds.{Kind}
@@ -86,17 +85,10 @@ module _ (M : Mdp) (G : Graph) where
       round zero n = shared (λ m. start (kind m)) (kind n) n
       round (suc h) n = shared (λ m. again (round h) (kind m) m) (kind n) n
 
-    -- Divided by D and rounded up, and down.
+    -- Divided by D and rounded up.
     abbrev pub up : ℕ → ℕ
     up x = rounded_up x D
 
-    abbrev pub down : ℕ → ℕ
-    down x = x / D
-
-    -- The figure of node n for h steps. These are the upper rounds: a waiting node counts as S, rounding up.
+    -- The figure of node n for h steps.
     abbrev pub figure : ℕ → ℕ → ℕ
     figure = round S up
-
-    -- The lower rounds: a waiting node counts as 0, rounding down.
-    abbrev pub lower : ℕ → ℕ → ℕ
-    lower = round 0 down

@@ -23,7 +23,7 @@ use Rattle.graph.specs.declared.GraphAnswer.TheVariants as Answer
 use Rattle.graph.proofs.CountLaws.{kind-few, none-of-kind}
 use Rattle.graph.proofs.Decided.{accepted-valid, figure-valid}
 use Rattle.graph.proofs.Demand.{answer-is}
-use Rattle.rounds.proofs.UpperLaws.{figures-begin}
+use Rattle.rounds.proofs.FigureLaws.{begins}
 use Rattle.laguipy.proofs.CallLaws.{figure-goes-on}
 use Rattle.report.specs.Room.{text_room}
 use Rattle.report.specs.Report.{counts_line, root_line, figure_lines, root_figure, text_of, report_text}
@@ -64,14 +64,14 @@ module _ (m g : List ℕ) where
 
       pub root-first : {a : List ℕ} {r : ℕ} → a ≡ first_of M G h (outcome (figure_rows G h first second)) first
           → r ≡ get_or a 0 0 → h % 2 ≡ 0 → r ≡ root_figure m g h
-      root-first e w t = w ∙ rw (e, figure-accepted, eq-eqb (h % 2) 0 t) (figures-begin M G h _ 0 A.rows.folder.some)
+      root-first e w t = w ∙ rw (e, figure-accepted, eq-eqb (h % 2) 0 t) (begins A h _ 0 A.rows.folder.some)
 
       pub root-second : {b : List ℕ} {r : ℕ} → b ≡ second_of M G h (outcome (figure_rows G h first second)) second
           → r ≡ get_or b 0 0 → (h % 2 ≡ 0 → ⊥) → r ≡ root_figure m g h
       root-second e w t =
           w
           ∙ rw (e, figure-accepted, ne_eqb h 0 (λ k. t (ap (λ (j : ℕ). j % 2) k)), ne_eqb (h % 2) 0 t)
-          (figures-begin M G h _ 0 A.rows.folder.some)
+          (begins A h _ 0 A.rows.folder.some)
 
   pub none-waiting : {s : Summary} → s ≡ summary G → s.waiting ≡ 0 → (summary G).waiting ≡ 0
   none-waiting e z = sym (ap (λ (x : Summary). x.waiting) e) ∙ z

@@ -16,7 +16,6 @@ use Rattle.model.specs.Layout.{variable_count}
 use Rattle.model.specs.Model.{Model, model_of}
 use Rattle.graph.specs.Simulation.{node_size, Simulation, simulation_of}
 use Rattle.graph.specs.Valid.{Valid}
-use Rattle.sums.specs.declared.Rounding.{Rounding}
 use Rattle.rounds.specs.Rounds.{source, own_start, own_next, next_round, nodes_of, own_start_row, own_next_row, cover_row, start_row, next_row}
 use Rattle.folder.specs.Tab.{fill}
 use Rattle.folder.proofs.FillLaws.{get_or-filled, get_or-kept, fill-same, fill-again}
@@ -64,11 +63,10 @@ module _ {m g : List ℕ} (A : Valid m g) where
   both own f d e =
       fill-same (nodes_of m g) _ f _ (λ n l. get_or-filled 0 (nodes_of m g) own d (source G n) (source_in n l) ∙ sym (e n)) ∙ fill-again (nodes_of m g) own f d
 
-  module _ (r : Rounding) where
-    pub start-both : (d : List ℕ) → cover_row m g (own_start_row m g r d) ≡ start_row m g r d
-    unfolding own_start round
-    start-both d = both (own_start r M G) _ d (shared-source r M G (own_start r M G))
+  pub start-both : (d : List ℕ) → cover_row m g (own_start_row m g d) ≡ start_row m g d
+  unfolding own_start round
+  start-both d = both (own_start M G) _ d (shared-source M G (own_start M G))
 
-    pub next_both : (last d : List ℕ) → cover_row m g (own_next_row m g r last d) ≡ next_row m g r last d
-    unfolding next_round
-    next_both last d = both (own_next r M G last) _ d (shared-source r M G (own_next r M G last))
+  pub next_both : (last d : List ℕ) → cover_row m g (own_next_row m g last d) ≡ next_row m g last d
+  unfolding next_round
+  next_both last d = both (own_next M G last) _ d (shared-source M G (own_next M G last))

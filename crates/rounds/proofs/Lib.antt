@@ -3,4 +3,3 @@ pub mod NodeLaws
 pub mod CoverLaws
 pub mod FigureLaws
 pub mod RowLaws
-pub mod UpperLaws

@@ -13,7 +13,6 @@ use Rattle.graph.specs.Valid.{Valid}
 use Rattle.graph.specs.Walks.{starts_at}
 use Rattle.sums.specs.Edges.{best_of}
 use Rattle.sums.specs.Tables.{Tables, figure_by}
-use Rattle.sums.specs.declared.Rounding.{Rounding}
 use Rattle.rounds.specs.Rounds.{own_next, nodes_of, Shaped}
 use Rattle.sums.proofs.ModelLaws.{best-is}
 use Rattle.sums.proofs.NodeLaws.{Parts}
@@ -31,10 +30,10 @@ module _ {m g : List ℕ} (A : Valid m g) where
       let k : nodes ≡ nodes_of m g = e ∙ rw (p, q) refl in
       record { size_is = p; nodes-are = k; small = omega (arith, (limits A.model.folder).variables); few = omega (arith, k, A.rows.folder.few) }
 
-  module _ (r : Rounding) {size : ℕ} {cs nb eb : List ℕ} (P : Parts m g size r.total cs nb eb) {weights firsts : List ℕ} (T : Tables M weights firsts) where
+  module _ {size d : ℕ} {cs nb eb : List ℕ} (P : Parts m g size d cs nb eb) {weights firsts : List ℕ} (T : Tables M weights firsts) where
     module _ {n at count : ℕ} (l : n < G.nodes) (a : at ≡ starts_at M g n) (q : count ≡ field size nb n 4) where
       module _ (row : List ℕ) {best : ℕ} (b : best ≡ best_of cs eb weights firsts row at count) where
-        pub node-figure : {kind f : ℕ} → kind ≡ field size nb n 0 → f ≡ figure_by r kind best → f ≡ own_next r M G row n
+        pub node-figure : {kind f : ℕ} → kind ≡ field size nb n 0 → f ≡ figure_by kind best d → f ≡ own_next M G row n
         node-figure k p =
-            p ∙ rw (k, b, P.commands, P.edges, a, q, P.size_is, P.nodes, best-is m g A.model.model T n (A.rows.content.edges n l) row)
-            (sym (own-next r M G row n))
+            p ∙ rw (k, b, P.total, P.commands, P.edges, a, q, P.size_is, P.nodes, best-is m g A.model.model T n (A.rows.content.edges n l) row)
+            (sym (own-next M G row n))

@@ -1,48 +1,34 @@
--- One round from the row of the last one, in the words of mdp's rounds, however they count; and what the rows hold after
--- h of them.
+-- One round from the row of the last one, in the words of mdp's rounds; and what the rows hold after h of them.
 -- Assumes nothing.
-use Rattle.std.specs.Prelude.{ℕ, ◌-◌, ◌≤◌, ◌≡◌, Bool, List, get_or, eqb}
-use Rattle.mdp.specs.Graph.{start, again, shared, round}
+use Rattle.std.specs.Prelude.{ℕ, ◌≤◌, ◌<◌, ◌≡◌, Bool, List, length, get_or, eqb}
+use Rattle.mdp.specs.Graph.{start, again, shared, up, figure}
 use Rattle.folder.specs.Fields.{field_limit}
 use Rattle.folder.specs.Pick.{pick}
-use Rattle.folder.specs.Tab.{tab, fill}
+use Rattle.folder.specs.Tab.{fill}
 use Rattle.folder.specs.Scan.{all}
+use Rattle.folder.specs.declared.Outcome.TheVariants.{Accepted}
 use Rattle.model.specs.Layout.{variable_count}
 use Rattle.model.specs.Model.{Model, model_of}
 use Rattle.model.specs.Chances.{mdp}
 use Rattle.graph.specs.Limits.{units, most_nodes}
 use Rattle.graph.specs.Simulation.{Simulation, graph, kind_of, node_size, node_count, simulation_of}
-use Rattle.graph.specs.Figures.{in_first, even_row, odd_row}
-use Rattle.sums.specs.Tables.{divided}
-use Rattle.sums.specs.declared.Rounding.{Rounding}
+use Rattle.graph.specs.Figures.{first_of, second_of, in_first}
 
 -- Whose figure a node takes: its cover's, if it has one.
 unfoldable pub source : Simulation → ℕ → ℕ
 source G n = pick (eqb (G.kind n) 2) (G.cover n) n
 
--- Document 01's rounds, which are the upper ones: a waiting node counts as S, rounding up. And document 02's lower ones
--- (2.7): it counts as 0, rounding down.
-abbrev pub upper_of : Model → Rounding
-upper_of M = record { waiting = units; over = M.total - 1; total = M.total }
-
-abbrev pub lower_of : Model → Rounding
-lower_of M = record { waiting = 0; over = 0; total = M.total }
-
-module _ (r : Rounding) (M : Model) (G : Simulation) where
-  -- Round k, one figure per node.
-  unfoldable pub round_by : ℕ → List ℕ
-  round_by k = tab G.nodes (round (mdp M) (graph G) units r.waiting (divided r) k)
-
+module _ (M : Model) (G : Simulation) where
   -- What node n holds in round 0, unless it is covered; and in the round after the one in `row`.
   unfoldable pub own_start : ℕ → ℕ
-  own_start n = start (mdp M) (graph G) units r.waiting (divided r) (kind_of (G.kind n))
+  own_start n = start (mdp M) (graph G) units units (up (mdp M) (graph G) units) (kind_of (G.kind n))
 
   unfoldable pub own_next : List ℕ → ℕ → ℕ
-  own_next row n = again (mdp M) (graph G) units r.waiting (divided r) (λ k. get_or row k 0) (kind_of (G.kind n)) n
+  own_next row n = again (mdp M) (graph G) units units (up (mdp M) (graph G) units) (λ k. get_or row k 0) (kind_of (G.kind n)) n
 
   -- The round after the one in `row`.
   unfoldable pub next_round : List ℕ → ℕ → ℕ
-  next_round row n = shared (mdp M) (graph G) units r.waiting (divided r) (own_next row) (kind_of (G.kind n)) n
+  next_round row n = shared (mdp M) (graph G) units units (up (mdp M) (graph G) units) (own_next row) (kind_of (G.kind n)) n
 
 -- The same over the bytes of the two folders: what a row holds that was filled so.
 module _ (m g : List ℕ) where
@@ -56,37 +42,36 @@ module _ (m g : List ℕ) where
     pub small : size ≤ field_limit
     pub few : nodes ≤ most_nodes
 
+  abbrev pub own_start_row : List ℕ → List ℕ
+  own_start_row row = fill nodes_of (own_start (model_of m) (simulation_of (model_of m) g)) row
+
+  abbrev pub own_next_row : List ℕ → List ℕ → List ℕ
+  own_next_row last row = fill nodes_of (own_next (model_of m) (simulation_of (model_of m) g) last) row
+
   -- Each node takes its source's figure.
   abbrev pub cover_row : List ℕ → List ℕ
   cover_row row = fill nodes_of (λ n. get_or row (source (simulation_of (model_of m) g) n) 0) row
 
-  module _ (r : Rounding) where
-    abbrev pub own_start_row : List ℕ → List ℕ
-    own_start_row row = fill nodes_of (own_start r (model_of m) (simulation_of (model_of m) g)) row
+  -- Round 0, and the round after the one in `last`.
+  abbrev pub start_row : List ℕ → List ℕ
+  start_row row = fill nodes_of (figure (mdp (model_of m)) (graph (simulation_of (model_of m) g)) units 0) row
 
-    abbrev pub own_next_row : List ℕ → List ℕ → List ℕ
-    own_next_row last row = fill nodes_of (own_next r (model_of m) (simulation_of (model_of m) g) last) row
+  abbrev pub next_row : List ℕ → List ℕ → List ℕ
+  next_row last row = fill nodes_of (next_round (model_of m) (simulation_of (model_of m) g) last) row
 
-    -- Round 0, and the round after the one in `last`.
-    abbrev pub start_row : List ℕ → List ℕ
-    start_row row = fill nodes_of (round (mdp (model_of m)) (graph (simulation_of (model_of m) g)) units r.waiting (divided r) 0) row
+  -- What the two rows hold after h rounds, the row given being what they held before.
+  unfoldable pub first_at : ℕ → List ℕ → List ℕ
+  first_at h row = first_of (model_of m) (simulation_of (model_of m) g) h Accepted row
 
-    abbrev pub next_row : List ℕ → List ℕ → List ℕ
-    next_row last row = fill nodes_of (next_round r (model_of m) (simulation_of (model_of m) g) last) row
+  unfoldable pub second_at : ℕ → List ℕ → List ℕ
+  second_at h row = second_of (model_of m) (simulation_of (model_of m) g) h Accepted row
 
-    -- What the two rows hold after h rounds, the row given being what they held before.
-    unfoldable pub first_at : ℕ → List ℕ → List ℕ
-    first_at h row = even_row (round_by r (model_of m) (simulation_of (model_of m) g)) h row
+  -- What a turn makes of the rows: round k + 1 goes into the row of its parity, from round k in the other.
+  unfoldable pub turn_first : ℕ → List ℕ → List ℕ → List ℕ
+  turn_first k a b = pick (in_first k) a (next_row b a)
 
-    unfoldable pub second_at : ℕ → List ℕ → List ℕ
-    second_at h row = odd_row (round_by r (model_of m) (simulation_of (model_of m) g)) h row
-
-    -- What a turn makes of the rows: round k + 1 goes into the row of its parity, from round k in the other.
-    unfoldable pub turn_first : ℕ → List ℕ → List ℕ → List ℕ
-    turn_first k a b = pick (in_first k) a (next_row b a)
-
-    unfoldable pub turn_second : ℕ → List ℕ → List ℕ → List ℕ
-    turn_second k a b = pick (in_first k) (next_row a b) b
+  unfoldable pub turn_second : ℕ → List ℕ → List ℕ → List ℕ
+  turn_second k a b = pick (in_first k) (next_row a b) b
 
 -- The row that holds round k.
 unfoldable pub held_in : ℕ → List ℕ → List ℕ → List ℕ

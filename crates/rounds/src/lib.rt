@@ -1,55 +1,24 @@
-// The rounds, over two rows that the caller lends. How they count, up or down, goes in.
+// Figures: the rounds, over two rows that the caller lends.
 ghost use Rattle.std.specs.Prelude.{◌≡◌, ◌<◌, ◌≤◌, length, eqb};
 ghost use Rattle.folder.specs.Fields.{field_limit};
 ghost use Rattle.folder.specs.Pick.{pick};
 ghost use Rattle.folder.specs.Scan.{first_bad};
+ghost use Rattle.folder.specs.declared.Outcome.TheVariants.{Accepted};
 ghost use Rattle.model.specs.Model.{model_of};
 ghost use Rattle.graph.specs.Simulation.{simulation_of};
-ghost use Rattle.graph.specs.Figures.{even_row, odd_row};
+ghost use Rattle.graph.specs.Figures.{first_of, second_of};
 ghost use Rattle.graph.specs.Valid.{Valid};
-ghost use Rattle.sums.specs.Tables.{Tables, Round, Rounds};
-ghost use Rattle.rounds.specs.Rounds.{upper_of, lower_of, round_by, nodes_of, Shaped, own_start_row, own_next_row, cover_row, start_row, next_row, first_at, second_at, turn_first, turn_second, held_in, alike, same_first};
+ghost use Rattle.sums.specs.Tables.{Tables, Round};
+ghost use Rattle.rounds.specs.Rounds.{nodes_of, Shaped, own_start_row, own_next_row, cover_row, start_row, next_row, first_at, second_at, turn_first, turn_second, held_in, alike, same_first};
 
 use graph::COVERED;
 use model::{MOST_COMMANDS, MOST_RECORDS};
-use sums::Rounding;
-
-// Certainty.
-const UNITS: u32 = graph::UNITS as u32;
 
 // D.
 fn total_of(m: &[u8]) -> usize
     ensures { (result ≡ (model_of m.now).total) × (result < field_limit) }
 {
     folder::field(4, folder::body(m, 0), 0, 0)
-}
-
-// How document 01's rounds count, which are the upper ones: a waiting node as certain, rounding up.
-pub fn upper(m: &[u8]) -> Rounding
-    requires { 0 < (model_of m.now).total }
-    ensures value { result ≡ upper_of (model_of m.now) }
-    ensures rounds { Rounds (model_of m.now) result }
-{
-    let total = total_of(m);
-    Rounding {
-        waiting: UNITS,
-        over: total - 1,
-        total,
-    }
-}
-
-// How the lower rounds count: a waiting node as 0, rounding down.
-pub fn lower(m: &[u8]) -> Rounding
-    requires { 0 < (model_of m.now).total }
-    ensures value { result ≡ lower_of (model_of m.now) }
-    ensures rounds { Rounds (model_of m.now) result }
-{
-    let total = total_of(m);
-    Rounding {
-        waiting: 0,
-        over: 0,
-        total,
-    }
 }
 
 // Of a graph: the bytes of a node, and how many nodes there are.
@@ -69,25 +38,17 @@ fn shape_of(m: &[u8], g: &[u8]) -> Shape
 }
 
 // A round's figures of the nodes that are not covered, from the row `src` of the last round.
-fn fill_next(
-    m: &[u8],
-    g: &[u8],
-    weights: &[usize],
-    firsts: &[usize],
-    r: Rounding,
-    src: &[u32],
-    dst: &mut [u32],
-)
+fn fill_next(m: &[u8], g: &[u8], weights: &[usize], firsts: &[usize], src: &[u32], dst: &mut [u32])
     requires valid { Valid m.now g.now }
     requires tables { Tables (model_of m.now) weights.now firsts.now }
     requires round { Round (nodes_of m.now g.now) src.now }
     requires g_in_bounds { nodes_of m.now g.now ≤ length dst.old }
-    requires rounds { Rounds (model_of m.now) r }
-    ensures { dst.new ≡ own_next_row m.now g.now r src.now dst.old }
+    ensures { dst.new ≡ own_next_row m.now g.now src.now dst.old }
 {
     let shape = shape_of(m, g);
     let size = shape.size;
     let nodes = shape.nodes;
+    let d = total_of(m);
     let cs = folder::body(m, 3);
     let nb = folder::body(g, 0);
     let eb = folder::body(g, 1);
@@ -97,18 +58,17 @@ fn fill_next(
         let kind = folder::field(size, nb, n, 0);
         let count = folder::field(size, nb, n, 4);
         let best = sums::best_of(cs, eb, weights, firsts, src, at, count);
-        dst[n] = sums::figure_by(r, kind, best.greatest);
+        dst[n] = sums::figure_by(kind, best.greatest, d);
         at = best.next;
         n += 1;
     }
 }
 
 // Round 0's figures of the nodes that are not covered: no sum counts yet.
-fn fill_start(m: &[u8], g: &[u8], r: Rounding, dst: &mut [u32])
+fn fill_start(m: &[u8], g: &[u8], dst: &mut [u32])
     requires valid { Valid m.now g.now }
     requires g_in_bounds { nodes_of m.now g.now ≤ length dst.old }
-    requires rounds { Rounds (model_of m.now) r }
-    ensures { dst.new ≡ own_start_row m.now g.now r dst.old }
+    ensures { dst.new ≡ own_start_row m.now g.now dst.old }
 {
     let shape = shape_of(m, g);
     let size = shape.size;
@@ -117,7 +77,7 @@ fn fill_start(m: &[u8], g: &[u8], r: Rounding, dst: &mut [u32])
     let mut n = 0;
     while n < nodes {
         let kind = folder::field(size, nb, n, 0);
-        dst[n] = sums::figure_by(r, kind, 0);
+        dst[n] = sums::figure_by(kind, 0, 1);
         n += 1;
     }
 }
@@ -149,34 +109,24 @@ fn fill_covers(m: &[u8], g: &[u8], dst: &mut [u32])
     }
 }
 
-fn start_round(m: &[u8], g: &[u8], r: Rounding, dst: &mut [u32])
+fn start_round(m: &[u8], g: &[u8], dst: &mut [u32])
     requires valid { Valid m.now g.now }
     requires g_in_bounds { nodes_of m.now g.now ≤ length dst.old }
-    requires rounds { Rounds (model_of m.now) r }
-    ensures { dst.new ≡ start_row m.now g.now r dst.old }
+    ensures { dst.new ≡ start_row m.now g.now dst.old }
 {
-    fill_start(m, g, r, dst);
+    fill_start(m, g, dst);
     fill_covers(m, g, dst);
 }
 
 // The round after the one in `src`.
-fn next_round(
-    m: &[u8],
-    g: &[u8],
-    weights: &[usize],
-    firsts: &[usize],
-    r: Rounding,
-    src: &[u32],
-    dst: &mut [u32],
-)
+fn next_round(m: &[u8], g: &[u8], weights: &[usize], firsts: &[usize], src: &[u32], dst: &mut [u32])
     requires valid { Valid m.now g.now }
     requires tables { Tables (model_of m.now) weights.now firsts.now }
     requires round { Round (nodes_of m.now g.now) src.now }
     requires g_in_bounds { nodes_of m.now g.now ≤ length dst.old }
-    requires rounds { Rounds (model_of m.now) r }
-    ensures { dst.new ≡ next_row m.now g.now r src.now dst.old }
+    ensures { dst.new ≡ next_row m.now g.now src.now dst.old }
 {
-    fill_next(m, g, weights, firsts, r, src, dst);
+    fill_next(m, g, weights, firsts, src, dst);
     fill_covers(m, g, dst);
 }
 
@@ -186,7 +136,6 @@ fn turn(
     g: &[u8],
     weights: &[usize],
     firsts: &[usize],
-    r: Rounding,
     k: usize,
     first: &mut [u32],
     second: &mut [u32],
@@ -195,14 +144,13 @@ fn turn(
     requires tables { Tables (model_of m.now) weights.now firsts.now }
     requires round { Round (nodes_of m.now g.now) (held_in k first.old second.old) }
     requires g_in_bounds { (nodes_of m.now g.now ≤ length first.old) × (nodes_of m.now g.now ≤ length second.old) }
-    requires rounds { Rounds (model_of m.now) r }
-    ensures first_after { first.new ≡ turn_first m.now g.now r k first.old second.old }
-    ensures second_after { second.new ≡ turn_second m.now g.now r k first.old second.old }
+    ensures first_after { first.new ≡ turn_first m.now g.now k first.old second.old }
+    ensures second_after { second.new ≡ turn_second m.now g.now k first.old second.old }
 {
     if k % 2 == 0 {
-        next_round(m, g, weights, firsts, r, first, second);
+        next_round(m, g, weights, firsts, first, second);
     } else {
-        next_round(m, g, weights, firsts, r, second, first);
+        next_round(m, g, weights, firsts, second, first);
     }
 }
 
@@ -236,7 +184,6 @@ fn turns(
     g: &[u8],
     weights: &[usize],
     firsts: &[usize],
-    r: Rounding,
     h: usize,
     first: &mut [u32],
     second: &mut [u32],
@@ -244,30 +191,28 @@ fn turns(
     requires valid { Valid m.now g.now }
     requires tables { Tables (model_of m.now) weights.now firsts.now }
     requires g_in_bounds { (nodes_of m.now g.now ≤ length first.old) × (nodes_of m.now g.now ≤ length second.old) }
-    requires rounds { Rounds (model_of m.now) r }
-    ensures first_after { first.new ≡ first_at m.now g.now r h first.old }
-    ensures second_after { second.new ≡ second_at m.now g.now r h second.old }
+    ensures first_after { first.new ≡ first_at m.now g.now h first.old }
+    ensures second_after { second.new ≡ second_at m.now g.now h second.old }
 {
     let shape = shape_of(m, g);
     let nodes = shape.nodes;
-    start_round(m, g, r, first);
+    start_round(m, g, first);
     let mut k = 0;
     while k < h {
-        turn(m, g, weights, firsts, r, k, first, second);
+        turn(m, g, weights, firsts, k, first, second);
         k = reached(nodes, first, second, k + 1, h);
     }
 }
 
 // Round h in the row of its parity, and round h - 1 in the other.
-pub fn run_rounds(m: &[u8], g: &[u8], r: Rounding, h: usize, first: &mut [u32], second: &mut [u32])
+pub fn run_rounds(m: &[u8], g: &[u8], h: usize, first: &mut [u32], second: &mut [u32])
     requires valid { Valid m.now g.now }
     requires g_in_bounds { (nodes_of m.now g.now ≤ length first.old) × (nodes_of m.now g.now ≤ length second.old) }
-    requires rounds { Rounds (model_of m.now) r }
-    ensures first_after { first.new ≡ even_row (round_by r (model_of m.now) (simulation_of (model_of m.now) g.now)) h first.old }
-    ensures second_after { second.new ≡ odd_row (round_by r (model_of m.now) (simulation_of (model_of m.now) g.now)) h second.old }
+    ensures first_after { first.new ≡ first_of (model_of m.now) (simulation_of (model_of m.now) g.now) h Accepted first.old }
+    ensures second_after { second.new ≡ second_of (model_of m.now) (simulation_of (model_of m.now) g.now) h Accepted second.old }
 {
     let mut weights = [0usize; MOST_RECORDS];
     let mut firsts = [0usize; MOST_COMMANDS];
     sums::fill_tables(m, &mut weights, &mut firsts);
-    turns(m, g, &weights, &firsts, r, h, first, second);
+    turns(m, g, &weights, &firsts, h, first, second);
 }

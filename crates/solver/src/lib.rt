@@ -421,8 +421,8 @@ fn fits(m: &[u8], k: usize) -> bool {
     mul(power(total(m), k), add(CERTAIN, k)) < usize::MAX
 }
 
-fn value(m: &[u8], g: &[u8], i: usize) -> usize {
-    long(g, add(node_start(m, g, i), 4))
+fn root_value(m: &[u8], g: &[u8]) -> usize {
+    long(g, add(node_start(m, g, 0), 4))
 }
 
 // Within k steps the initial state's best chance is at most the root value.
@@ -430,7 +430,7 @@ pub fn try_root(m: &[u8], g: &[u8], k: usize) -> Trial {
     if !fits(m, k) {
         return Trial::TooBig;
     }
-    let most = mul(value(m, g, 0), power(total(m), k));
+    let most = mul(root_value(m, g), power(total(m), k));
     if scaled(m, &initial(m), k) <= most {
         Trial::Holds
     } else {
@@ -462,22 +462,4 @@ pub fn try_figures(m: &[u8], g: &[u8], h: usize, figures: &[u32]) -> Trial {
         i += 1;
     }
     Trial::Holds
-}
-
-// The ends of node i for h steps: the best chance from its concrete label lies between, and the upper one is at most the
-// node's value.
-pub fn try_ends(m: &[u8], g: &[u8], h: usize, i: usize, low: u32, high: u32) -> Trial {
-    if !fits(m, h) {
-        return Trial::TooBig;
-    }
-    let d = power(total(m), h);
-    let exact = scaled(m, &concrete(m, g, i), h);
-    let least = mul(wide_units(low), d);
-    let most = mul(wide_units(high), d);
-    let within = wide_units(high) <= value(m, g, i);
-    if (least <= exact) & (exact <= most) & within {
-        Trial::Holds
-    } else {
-        Trial::Broken
-    }
 }

@@ -1,4 +1,4 @@
--- Laws of an edge's weighted sum, of the walk over a node's edges, and of rounding.
+-- Laws of an edge's weighted sum, of the walk over a node's edges, and of rounding up.
 -- Assumes nothing.
 use Prim.Native.Nat.{ℕ, ◌+◌, ◌-◌, ◌*◌, ◌/◌, ◌≤◌, ◌<◌, max}
 use native.Mathlib.Nat.{div-lt_iff_lt-mul}
@@ -48,6 +48,6 @@ module _ {cs eb weights firsts : List ℕ} {nodes at count : ℕ} (R : EdgesRead
     unfolding best_of sum_of
     edge_more row u v = greatest-next e (λ i. sum_of cs eb weights firsts row (after cs eb at i)) u (v ∙ rw (s, q, p) refl)
 
--- An average of at most s rounds to at most s, up or down.
-pub average-small : (d over x s : ℕ) → over < d → x ≤ d * s → (x + over) / d < s + 1
-average-small d over x s p h = (div-lt_iff_lt-mul {k = d} {x = x + over} {y = s + 1} (omega arith)).1 (omega arith)
+-- An average of at most s rounds up to at most s.
+pub up_small : (d x s : ℕ) → 0 < d → x ≤ d * s → (x + (d - 1)) / d < s + 1
+up_small d x s p h = (div-lt_iff_lt-mul {k = d} {x = x + (d - 1)} {y = s + 1} p).1 (omega arith)

@@ -1,14 +1,13 @@
--- The tables that sums are made from, how rounds count, and the figure that a sum gives.
+-- The tables that sums are made from, and the figure that a sum gives.
 -- Assumes nothing.
-use Rattle.std.specs.Prelude.{ℕ, ◌+◌, ◌/◌, ◌≤◌, ◌<◌, ◌≡◌, List, length, get_or, eqb}
-use Rattle.mdp.specs.Sums.{sum}
+use Rattle.std.specs.Prelude.{ℕ, ◌≤◌, ◌<◌, ◌≡◌, List, length, get_or, eqb}
+use Rattle.mdp.specs.Sums.{sum, rounded_up}
 use Rattle.folder.specs.Fields.{field_limit}
 use Rattle.folder.specs.Pick.{pick}
 use Rattle.folder.specs.Contents.{field}
 use Rattle.model.specs.Model.{Model, first_record}
 use Rattle.graph.specs.Limits.{units}
 use Rattle.sums.specs.Edges.{branches_in}
-use Rattle.sums.specs.declared.Rounding.{Rounding}
 
 -- The tables: each branch record's weight, and each command's first branch record.
 pub record Tables (M : Model) (weights firsts : List ℕ) : Type 0 where
@@ -34,17 +33,6 @@ pub record Round (nodes : ℕ) (row : List ℕ) : Type 0 where
   pub long : nodes ≤ length row
   pub small : (n : ℕ) → n < nodes → get_or row n 0 ≤ units
 
--- How rounds count: a waiting node as `waiting` units; and a sum is divided by `total`, which is D, once `over` is added:
--- D − 1 rounds up, 0 rounds down.
-abbrev pub divided : Rounding → ℕ → ℕ
-divided r x = (x + r.over) / r.total
-
-pub record Rounds (M : Model) (r : Rounding) : Type 0 where
-  pub total-is : r.total ≡ M.total
-  pub total-small : r.total < field_limit
-  pub part : r.over < r.total
-  pub certain : r.waiting ≤ units
-
 -- The figure of a node by its kind, unless it is covered: `best` is the greatest sum over its edges.
-unfoldable pub figure_by : Rounding → ℕ → ℕ → ℕ
-figure_by r kind best = pick (eqb kind 1) (divided r best) (pick (eqb kind 2) 0 (pick (eqb kind 3) units r.waiting))
+unfoldable pub figure_by : ℕ → ℕ → ℕ → ℕ
+figure_by kind best d = pick (eqb kind 1) (rounded_up best d) (pick (eqb kind 2) 0 units)

@@ -1,5 +1,6 @@
 // Sums over edges: of one edge, the greatest of a node's, and the figure that it gives; and the tables they read.
-ghost use Rattle.std.specs.Prelude.{◌≡◌, ◌+◌, ◌*◌, ◌<◌, ◌≤◌, ◌^◌, ◌/◌, max, length};
+ghost use Rattle.std.specs.Prelude.{◌≡◌, ◌+◌, ◌*◌, ◌<◌, ◌≤◌, ◌^◌, max, length};
+ghost use Rattle.mdp.specs.Sums.{rounded_up};
 ghost use Rattle.folder.specs.Fields.{field_limit};
 ghost use Rattle.folder.specs.Contents.{field, count_of};
 ghost use Rattle.folder.specs.Tab.{fill};
@@ -10,7 +11,7 @@ ghost use Rattle.graph.specs.Limits.{units};
 ghost use Rattle.sums.specs.Edges.{most_product, sum_at, EdgeFits, after, EdgesReady, best_of};
 ghost use Rattle.sums.specs.Tables.{Tables, weight_in, first_in, Light, figure_by};
 
-use graph::{COVERED, EXPANDED, TARGET};
+use graph::{COVERED, EXPANDED};
 
 // Certainty.
 const UNITS: u32 = graph::UNITS as u32;
@@ -95,37 +96,27 @@ pub fn best_of(
     }
 }
 
-// A sum in units: divided once by D. What is added before, D - 1 or 0, rounds up or down.
-pub fn average(sum: usize, over: usize, d: usize) -> u32
-    requires { (over < d) × (d < field_limit) × (sum ≤ d * units) }
-    ensures { result ≡ (sum + over) / d }
+// Divided once, and rounded up.
+fn up(x: usize, d: usize) -> usize
+    requires { (0 < d) × (x + d < 2 ^ 64) }
+    ensures { result ≡ rounded_up x d }
 {
-    ((sum + over) / d) as u32
-}
-
-// How rounds count: a waiting node as so many units, and a sum divided by the total, which is D, once `over` is added.
-#[derive(Drop)]
-pub struct Rounding {
-    pub waiting: u32,
-    pub over: usize,
-    pub total: usize,
+    let over = d - 1;
+    (x + over) / d
 }
 
 // The figure of a node that is not covered, from the greatest sum over its edges; a covered one is 0 for now.
-pub fn figure_by(r: Rounding, kind: usize, best: usize) -> u32
-    requires { (r.over < r.total) × (r.total < field_limit) × (best ≤ r.total * units) }
-    ensures { result ≡ figure_by r kind best }
+pub fn figure_by(kind: usize, best: usize, d: usize) -> u32
+    requires { (0 < d) × (d < field_limit) × (best ≤ d * units) }
+    ensures { result ≡ figure_by kind best d }
 {
     if kind == EXPANDED {
-        return average(best, r.over, r.total);
+        return up(best, d) as u32;
     }
     if kind == COVERED {
         return 0;
     }
-    if kind == TARGET {
-        return UNITS;
-    }
-    r.waiting
+    UNITS
 }
 
 // The table of weights.

@@ -1,8 +1,7 @@
-// The library's steps, figures, ends and root values against the solver's, and the figure, the ends and the build call's
-// answers and rows.
+// The library's steps, figures and root values against the solver's, and the figure and the build call's answers and rows.
 // Safe and ending on any arguments; its contracts say no more.
 use assembly::BuildAnswer;
-use clamped::{add, mul, sub};
+use clamped::{add, sub};
 use folder::{Outcome, Refusal};
 use graph::{GraphAnswer, MOST_NODES, Summary};
 use solver::{MOST_VARIABLES, Trial, ZERO, first_values, small};
@@ -10,13 +9,6 @@ use tally::{BOUNDS, STEPS, TALLY, TOO_BIG, answer, answer_of, count, hold, judge
 
 // The rows beyond a result, and a refused step's, keep this.
 const KEPT: i16 = 7;
-
-// Certainty, in units.
-const CERTAIN: u32 = 1000000000;
-
-fn wide(x: u32) -> usize {
-    x as usize
-}
 
 // The first n values as the library takes them.
 fn row_of(s: &[usize; MOST_VARIABLES], n: usize) -> [i16; MOST_VARIABLES] {
@@ -123,95 +115,8 @@ fn figures_case(t: &mut [usize; TALLY], m: &[u8], g: &[u8], h: usize) {
     }
 }
 
-// ---- the two-ended figure
-
-// Rows of the graphs whose ends are tried; and how many nodes a line can have ends of.
-const ROW: usize = 32;
-
-const LINE: usize = 15;
-
-// Of two figures the one of round h.
-fn held(h: usize, even: u32, odd: u32) -> u32 {
-    if h % 2 == 0 { even } else { odd }
-}
-
-// Of two rows the one that holds round h.
-fn round_in(h: usize, even: &[u32; ROW], odd: &[u32; ROW]) -> [u32; ROW] {
-    let mut row = [0u32; ROW];
-    let mut i = 0;
-    while i < ROW {
-        row[i] = held(h, even[i], odd[i]);
-        i += 1;
-    }
-    row
-}
-
-// Whether a chance shows so many units: only none is 0 and only certainty 1, and no other whole number is nearer.
-fn shows(chance: f64, units: u32) -> bool {
-    let off = chance * 1_000_000_000.0 - units as f64;
-    let none = (chance == 0.0) == (units == 0);
-    let certain = (chance == 1.0) == (units == CERTAIN);
-    none & certain & (off < 0.5) & (-0.5 < off)
-}
-
-// Both figures of node i, if there is one: the best chance lies between; of a finished graph they differ by at most 2h.
-fn node_case(
-    t: &mut [usize; TALLY],
-    m: &[u8],
-    g: &[u8],
-    h: usize,
-    finished: bool,
-    i: usize,
-    low: u32,
-    high: u32,
-) {
-    if solver::nodes(m, g) <= i {
-        return;
-    }
-    bound_case(t, h, solver::try_ends(m, g, h, i, low, high));
-    let near = wide(high) <= add(wide(low), mul(2, h));
-    hold(t, near | !finished, h, i);
-}
-
-fn try_nodes(
-    t: &mut [usize; TALLY],
-    m: &[u8],
-    g: &[u8],
-    h: usize,
-    finished: bool,
-    low: &[u32; ROW],
-    high: &[u32; ROW],
-) {
-    let mut i = 0;
-    while i < ROW {
-        node_case(t, m, g, h, finished, i, low[i], high[i]);
-        i += 1;
-    }
-}
-
-// The ends of an accepted graph within h steps.
-fn ends_bounds(t: &mut [usize; TALLY], m: &[u8], g: &[u8], h: usize) {
-    let mut first = [0u32; ROW];
-    let mut second = [0u32; ROW];
-    let mut third = [0u32; ROW];
-    let mut fourth = [0u32; ROW];
-    let figures = answer_of(laguipy::figure_refusal(m, g, h, &first, &second));
-    let a = laguipy::ends(m, g, h, &mut first, &mut second, &mut third, &mut fourth);
-    let o = a.outcome;
-    let e = a.ends;
-    let told = answer_of(o);
-    count(t, told.number);
-    if told.number == 0 {
-        let low = round_in(h, &third, &fourth);
-        let high = round_in(h, &first, &second);
-        try_nodes(t, m, g, h, figures.number == 0, &low, &high);
-        hold(t, shows(e.low, low[0]) & shows(e.high, high[0]), h, 0);
-    }
-}
-
 fn both_bounds(t: &mut [usize; TALLY], m: &[u8], g: &[u8], h: usize) {
     figures_case(t, m, g, h);
-    ends_bounds(t, m, g, h);
     bound_case(t, h, solver::try_root(m, g, h));
 }
 
@@ -308,59 +213,6 @@ pub fn figure_case(t: &mut [usize; TALLY], m: &[u8], g: &[u8], a: &[usize; 32], 
         due,
     );
     rows_case(t, m, g, a[0], a[1], a[2]);
-}
-
-// The ends call at h and row lengths a. Refused, and only then, all rows stay as they are; then both ends are 0.
-pub fn ends_case(t: &mut [usize; TALLY], m: &[u8], g: &[u8], a: &[usize; 32], due: Refusal) {
-    let mut first = [9u32; MOST_NODES];
-    let mut second = [9u32; MOST_NODES];
-    let mut third = [9u32; MOST_NODES];
-    let mut fourth = [9u32; MOST_NODES];
-    let r = laguipy::ends(
-        m,
-        g,
-        a[0],
-        units(&mut first, a[1]),
-        units(&mut second, a[2]),
-        units(&mut third, a[3]),
-        units(&mut fourth, a[4]),
-    );
-    let o = r.outcome;
-    let e = r.ends;
-    let same = untouched(&first) & untouched(&second) & untouched(&third) & untouched(&fourth);
-    judge(t, o, due);
-    hold(t, same == (due.number != 0), due.number, 0);
-    hold(
-        t,
-        ((e.low == 0.0) & (e.high == 0.0)) | (due.number == 0),
-        due.number,
-        1,
-    );
-}
-
-// The first node whose lower and upper figure are not as due, which stand in turns; or `LINE`.
-fn unlike_ends(low: &[u32; ROW], high: &[u32; ROW], d: &[usize; 32]) -> usize {
-    let mut i = 0;
-    while i < LINE {
-        if (wide(low[i]) != d[2 * i]) | (wide(high[i]) != d[2 * i + 1]) {
-            return i;
-        }
-        i += 1;
-    }
-    LINE
-}
-
-// Both figures of each node for h steps.
-pub fn units_case(t: &mut [usize; TALLY], m: &[u8], g: &[u8], h: usize, d: &[usize; 32]) {
-    let mut first = [0u32; ROW];
-    let mut second = [0u32; ROW];
-    let mut third = [0u32; ROW];
-    let mut fourth = [0u32; ROW];
-    laguipy::ends(m, g, h, &mut first, &mut second, &mut third, &mut fourth);
-    let low = round_in(h, &third, &fourth);
-    let high = round_in(h, &first, &second);
-    let i = unlike_ends(&low, &high, d);
-    hold(t, i == LINE, h, i);
 }
 
 // ---- graphs, and the build call

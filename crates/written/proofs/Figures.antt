@@ -1,13 +1,18 @@
 -- What a graph that is built is good for: demand 3; and no figure exceeds its node's value.
 -- Assumes nothing.
-use Prim.Native.Nat.{ℕ, ◌+◌, ◌<◌, ◌≤◌}
-use mathlib.Core.Path.{◌≡◌, ◌∙◌}
+use Prim.Native.Nat.{ℕ, zero, suc, ◌+◌, ◌*◌, ◌<◌, ◌≤◌}
+use mathlib.Core.Path.{◌≡◌, refl, ◌∙◌}
 use mathlib.Core.Logic.{◌≢◌}
 use mathlib.Core.List.{List}
+use native.Mathlib.Nat.{le_trans, mul-le-mul_left}
+use native.Mathlib.Omega.{arith}
+use Rattle.mdp.specs.Mdp.{Mdp}
 use Rattle.mdp.specs.Kinds.{Kind}
-use Rattle.mdp.specs.Graph.{figure}
+use Rattle.mdp.specs.Graph.{Graph, along, Labelled, Valued, up, figure}
+use Rattle.mdp.specs.Sums.{greatest}
 use Rattle.mdp.specs.Demand.{Demand3}
-use Rattle.mdp.proofs.Figures.{figure-within}
+use Rattle.mdp.proofs.SumLaws.{greatest-below}
+use Rattle.mdp.proofs.Figures.{round-waiting, round-target, round-zero, round-suc, round-covered}
 use Rattle.mdp.proofs.Demand.{demand}
 use Rattle.folder.specs.declared.Outcome.TheVariants.{Accepted}
 use Rattle.model.specs.Model.{Model, model_of}
@@ -28,16 +33,58 @@ use Rattle.building.specs.Moves.{Limit}
 use Rattle.building.specs.Length.{waiting_count}
 use Rattle.building.specs.Built as Rules
 use Rattle.building.specs.Built.{built, built_graph, values_of}
+use Rattle.building.proofs.Falling.{sum-le}
+use Rattle.building.proofs.ValueLaws.{up_least}
 use Rattle.building.proofs.Built.{built-accepted}
 use Rattle.written.specs.Bytes.{graph_bytes}
 use Rattle.written.specs.Demand.{BuiltDemand}
 use Rattle.written.proofs.Counted.{waiting-nodes}
 use Rattle.written.proofs.Accepted.{built-answer}
 
+-- ---- values that keep the value rule are no smaller than the figures, whether nodes wait or not: a node that waits counts
+-- as certain in both
+module _ (M : Mdp) (positive : 0 < M.total) (G : Graph) (S : ℕ) (In : ℕ → M.State → Type 0) (L : Labelled M G In) (value : ℕ → ℕ) (U : Valued M G S value) where
+  open M use {branches, weight, total as D}
+  open G use {nodes, kind, cover, edges, command, successor}
+
+  abbrev Below : ℕ → ℕ → Type 0
+  Below h n = figure M G S h n ≤ value n
+
+  abbrev Expanded : ℕ → Type 0
+  Expanded h = (n : ℕ) → n < nodes → kind n ≡ Kind.expanded → Below h n
+
+  by_kind : (h : ℕ) → Expanded h → (n : ℕ) → n < nodes → (κ : Kind) → kind n ≡ κ → (κ ≡ Kind.covered → Below h n) → Below h n
+  by_kind h x n l Kind.waiting e c = omega (arith, round-waiting M G S S (up M G S) h n e, U.waitings n l e)
+  by_kind h x n l Kind.expanded e c = x n l e
+  by_kind h x n l Kind.covered e c = c refl
+  by_kind h x n l Kind.target e c = omega (arith, round-target M G S S (up M G S) h n e, U.targets n l e)
+
+  -- A covered node by its cover, which is not covered.
+  by-cover : (h : ℕ) → Expanded h → (n : ℕ) → n < nodes → kind n ≡ Kind.covered → Below h n
+  by-cover h x n l e =
+      let C = L.covereds n l e in
+      let b : Below h (cover n) = by_kind h x (cover n) C.known (kind (cover n)) refl (λ f. absurd (C.open-cover f)) in
+      omega (arith, b, round-covered M G S S (up M G S) h n e C.open-cover, U.covereds n l e)
+
+  each : (h : ℕ) → Expanded h → (n : ℕ) → n < nodes → Below h n
+  each h x n l = by_kind h x n l (kind n) refl (λ e. by-cover h x n l e)
+
+  along-below : (h : ℕ) → ((n : ℕ) → n < nodes → Below h n) → (n : ℕ) → n < nodes → kind n ≡ Kind.expanded → (e : ℕ) → e < edges n → along M G (figure M G S h) n e ≤ D * value n
+  along-below h below n l k e p = le_trans
+      (sum-le (branches (command n e)) (λ b. weight (command n e) b * figure M G S h (successor n e b)) (λ b. weight (command n e) b * value (successor n e b))
+      (λ b q. mul-le-mul_left (weight (command n e) b) (below (successor n e b) ((L.expandeds n l k).leads e p b q))))
+      (U.expandeds n l k e p)
+
+  pub figure-below : (h n : ℕ) → n < nodes → figure M G S h n ≤ value n
+  figure-below zero = each zero (λ n l e. omega (arith, round-zero M G S S (up M G S) n e))
+  figure-below (suc h) = each (suc h) (λ n l k. rw (round-suc M G S S (up M G S) h n k)
+      (up_least (greatest (edges n) (λ e _. along M G (figure M G S h) n e)) D (value n) positive
+      (omega (arith, greatest-below 1 (edges n) (λ e _. along M G (figure M G S h) n e) (D * value n) (λ e p. omega (arith, along-below h (figure-below h) n l k e p))))))
+
 -- ---- of any graph that keeps the rules
 module _ (M : Model) (X : ModelRight M) (G : Simulation) (K : ContentRight M G) (A : RulesRight M G (by_states M G)) where
   pub values-above-figures : (h n : ℕ) → n < G.nodes → figure (mdp M) (graph G) units h n ≤ G.value n
-  values-above-figures = figure-within (mdp M) (fair M X) (graph G) units (Contains M G) (labelled M X G K A) G.value (valued M X G K A)
+  values-above-figures = figure-below (mdp M) (fair M X).positive (graph G) units (Contains M G) (labelled M X G K A) G.value (valued M X G K A)
 
   ruled-demand : 0 < G.nodes → Demand3 (mdp M) units (graph G) (initial_state M) (concrete_state M G) (G.value 0)
   ruled-demand some = demand (mdp M) (fair M X) (graph G) units (Contains M G) (labelled M X G K A) G.value (valued M X G K A)

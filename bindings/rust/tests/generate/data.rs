@@ -230,15 +230,6 @@ fn in_set(set: u16, variable: usize) -> bool {
     variable < 16 && set >> variable & 1 == 1
 }
 
-impl EdgeData {
-    /// The next edge among the fields, if it is there: a successor for each branch.
-    fn take(fields: &mut impl Iterator<Item = u16>, model: &ModelData) -> Option<EdgeData> {
-        let command = fields.next()?;
-        let branches = model.branches_of(command.into()).len();
-        Some(EdgeData { command, successors: fields.take(branches).collect() })
-    }
-}
-
 impl NodeData {
     /// A node that tracks the set, its label agreeing with the state.
     pub fn new(kind: u16, value: u32, tracked: u16, concrete: &[i16]) -> NodeData {
@@ -281,31 +272,7 @@ impl NodeData {
     }
 }
 
-fn fields(bytes: &[u8]) -> impl Iterator<Item = u16> + '_ {
-    bytes.chunks_exact(2).map(|field| u16::from_le_bytes([field[0], field[1]]))
-}
-
 impl GraphData {
-    /// What a folder holds that is right for the model.
-    pub fn of(folder: &[u8], model: &ModelData) -> GraphData {
-        let variables = model.variables.len();
-        let length = u32::from_le_bytes([folder[4], folder[5], folder[6], folder[7]]) as usize;
-        let (records, edges) = folder[GRAPH_TABLE..].split_at(length);
-        let mut edges = fields(edges);
-        let nodes = records.chunks_exact(12 + 4 * variables).map(|record| {
-            let mut fields = fields(record);
-            let mut next = || fields.next().expect("a whole record");
-            let [kind, cover, low, high, edge_count, tracked] = [(); 6].map(|()| next());
-            let mut state = || (0..variables).map(|_| next() as i16).collect();
-            let [concrete, label] = [state(), state()];
-            let mut edge = || EdgeData::take(&mut edges, model).expect("all edges are there");
-            let edges = (0..edge_count).map(|_| edge()).collect();
-            let value = u32::from(low) | u32::from(high) << 16;
-            NodeData { kind, cover, value, edge_count, tracked, concrete, label, edges }
-        });
-        GraphData { nodes: nodes.collect() }
-    }
-
     pub fn bodies(&self) -> Vec<Vec<u8>> {
         let mut bodies = vec![Vec::new(); 2];
         for node in &self.nodes {

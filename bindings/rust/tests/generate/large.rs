@@ -138,118 +138,69 @@ pub fn deep_check() -> Large {
     }
 }
 
-/// A graph of one variable, whose value says which group a node is of: of the first groups
-/// every node is expanded, and all of them have the same commands, so many to a group.
-struct Grouped {
-    random: Random,
-    /// How many groups are expanded, and how many edges each of their nodes has.
-    expanded: u16,
-    each: usize,
-    builder: Builder,
-    /// By its value, the entry of a constant; and of the variable being that.
-    constants: Vec<u16>,
-    at: Vec<u16>,
-}
-
-impl Grouped {
-    fn new(seed: u64, groups: u16, expanded: u16, each: usize) -> Grouped {
-        let mut b = Builder::new(u16::MAX, vec![[0, groups as i16 - 1, 0]]);
-        let put = |b: &mut Builder, record| b.put(record).expect("few and flat");
-        let constants: Vec<u16> = (0..groups).map(|c| put(&mut b, [0, c, 0, 0])).collect();
-        let variable = put(&mut b, [1, 0, 0, 0]);
-        let at = constants.iter().map(|&c| put(&mut b, [8, variable, c, 0])).collect();
-        Grouped { random: Random::new(seed), expanded, each, builder: b, constants, at }
-    }
-
-    /// All commands: 16 branches, the first with weight 1. The next group is given by the
-    /// group, the command's number in it, and the branch.
-    fn commands(&mut self, mut next: impl FnMut(&mut Random, u16, usize, usize) -> u16) {
-        for group in 0..self.expanded {
-            for k in 0..self.each {
-                let mut weights = weights(&mut self.random, u16::MAX - 1, MOST_BRANCHES - 1);
-                weights.insert(0, 1);
-                let branches = weights.into_iter().enumerate().map(|(branch, weight)| {
-                    let next = next(&mut self.random, group, k, branch);
-                    vec![weight, self.constants[usize::from(next)]]
-                });
-                let branches = branches.collect();
-                self.builder.command(self.at[usize::from(group)], branches);
-            }
-        }
-    }
-
-    /// The graph of nodes of these groups, in order; of a group that is not expanded they
-    /// have the kind given.
-    fn graph(&mut self, group_of: &[u16], kind: impl Fn(u16) -> u16) -> GraphData {
-        let mut nodes_of = vec![Vec::new(); self.constants.len()];
-        for (place, &group) in group_of.iter().enumerate() {
-            nodes_of[usize::from(group)].push(place as u16);
-        }
-        let nodes = group_of.iter().map(|&group| {
-            if group >= self.expanded {
-                return NodeData::new(kind(group), CERTAIN, 1, &[group as i16]);
-            }
-            let mut node = NodeData::new(EXPANDED, CERTAIN, 1, &[group as i16]);
-            for command in self.each * usize::from(group)..self.each * usize::from(group + 1) {
-                // Constant c is entry c.
-                let successors = self.builder.model.branches_of(command).iter();
-                let successors = successors.map(|branch| self.random.pick(&nodes_of[usize::from(branch[1])]));
-                node.push_edge(command as u16, successors.collect());
-            }
-            node
-        });
-        GraphData { nodes: nodes.collect() }
-    }
-
-    fn finish(self, name: &'static str, graph: GraphData) -> Large {
-        let model = self.builder.model;
-        let (state, graph) = (model.initial(), graph.bytes());
-        Large { name, model: model.bytes(), graph, state, command: 0, branch: 0 }
-    }
-}
-
 /// For figures: 4,096 nodes, 7 edges of 16 branches each. Either every round
 /// changes, for more rounds than may be asked for, or few do.
 pub fn figures(changing: bool) -> Large {
-    let (groups, target) = (9u16, 9u16);
-    let mut grouped = Grouped::new(0x6669_6775 + u64::from(changing), groups + 1, groups, 7);
-    grouped.builder.model.target = grouped.at[usize::from(target)];
-    grouped.commands(|random, group, k, branch| match changing {
-        // One in 65,535 for most commands, and never for the rest.
-        true if branch == 0 && k != 0 => target,
-        true => random.below(usize::from(groups)) as u16,
-        false => group + 1 + random.below(usize::from(target - group)) as u16,
-    });
+    let mut random = Random::new(0x6669_6775 + u64::from(changing));
+    let (groups, each, target) = (9u16, 7, 9u16);
+    let mut b = Builder::new(u16::MAX, vec![[0, 9, 0]]);
+    let put = |b: &mut Builder, record| b.put(record).expect("few and flat");
+    let constants: Vec<u16> = (0..=9).map(|c| put(&mut b, [0, c, 0, 0])).collect();
+    let variable = put(&mut b, [1, 0, 0, 0]);
+    let at: Vec<u16> = constants.iter().map(|&c| put(&mut b, [8, variable, c, 0])).collect();
+    b.model.target = at[usize::from(target)];
+    for group in 0..groups {
+        for k in 0..each {
+            let mut weights = weights(&mut random, u16::MAX - 1, MOST_BRANCHES - 1);
+            weights.insert(0, 1);
+            let branches = weights.into_iter().enumerate().map(|(branch, weight)| {
+                let next = if changing {
+                    // One in 65,535 for most commands, and never for the rest.
+                    if branch == 0 && k != 0 {
+                        target
+                    } else {
+                        random.below(usize::from(groups)) as u16
+                    }
+                } else {
+                    group + 1 + random.below(usize::from(target - group)) as u16
+                };
+                vec![weight, constants[usize::from(next)]]
+            });
+            let branches = branches.collect();
+            b.command(at[usize::from(group)], branches);
+        }
+    }
+    let model = b.model;
     let group_of: Vec<u16> = (0..MOST_NODES as u16)
         .map(|place| match place {
             0..=9 => place,
-            _ => grouped.random.below(usize::from(groups)) as u16,
+            _ => random.below(usize::from(groups)) as u16,
         })
         .collect();
-    let graph = grouped.graph(&group_of, |_| TARGET);
-    grouped.finish(if changing { "figures that keep changing" } else { "figures that settle early" }, graph)
-}
-
-/// For ends: 4,096 nodes, half of them waiting, and 14 edges of 16 branches for each of the
-/// others, so that there are as many as for figures. For more rounds than may be asked for
-/// every round changes, the upper and the lower ones: what waits is reached, and a target
-/// is, with one in 65,535.
-pub fn unfinished() -> Large {
-    let (groups, waiting, target) = (4u16, 4u16, 5u16);
-    let mut grouped = Grouped::new(0x656e_6473, target + 1, groups, 14);
-    grouped.builder.model.target = grouped.at[usize::from(target)];
-    grouped.commands(|random, _, k, branch| match (branch, k % 3) {
-        (0, 1) => target,
-        (0, 2) => waiting,
-        _ => random.below(usize::from(groups)) as u16,
+    let mut nodes_of = vec![Vec::new(); 10];
+    for (place, &group) in group_of.iter().enumerate() {
+        nodes_of[usize::from(group)].push(place as u16);
+    }
+    let nodes = group_of.iter().map(|&group| {
+        let kind = if group == target { TARGET } else { EXPANDED };
+        let mut node = NodeData::new(kind, CERTAIN, 1, &[group as i16]);
+        if kind == EXPANDED {
+            for command in each * usize::from(group)..each * usize::from(group + 1) {
+                // Constant c is entry c.
+                let successors = model.branches_of(command).iter();
+                let successors = successors.map(|branch| random.pick(&nodes_of[usize::from(branch[1])]));
+                node.push_edge(command as u16, successors.collect());
+            }
+        }
+        node
     });
-    let group_of: Vec<u16> = (0..MOST_NODES as u16)
-        .map(|place| match place {
-            0..=5 => place,
-            _ if place % 2 == 0 => waiting,
-            _ => grouped.random.below(usize::from(groups)) as u16,
-        })
-        .collect();
-    let graph = grouped.graph(&group_of, |group| if group == target { TARGET } else { WAITING });
-    grouped.finish("ends that keep changing, half of the nodes waiting", graph)
+    let graph = GraphData { nodes: nodes.collect() };
+    Large {
+        name: if changing { "figures that keep changing" } else { "figures that settle early" },
+        model: model.bytes(),
+        graph: graph.bytes(),
+        state: model.initial(),
+        command: 0,
+        branch: 0,
+    }
 }

@@ -5,51 +5,40 @@ use super::readings;
 use super::states::{self, one_hash, one_slot, Crowd};
 use super::{pedal, Input};
 
-/// What the calls answer, in this order: model check, graph check, figure, step, index,
-/// ends. Nothing is acceptance; a refusal is its number and both places.
-pub type Answers = [Option<(u32, usize, usize)>; 6];
+/// What the five calls answer, in this order: model check, graph check, figure,
+/// step, index. Nothing is acceptance; a refusal is its number and both places.
+pub type Answers = [Option<(u32, usize, usize)>; 5];
 
 pub struct Limit {
     pub input: Input,
     pub answers: Answers,
 }
 
-const ACCEPTED: Answers = [None; 6];
+const ACCEPTED: Answers = [None; 5];
 
 fn model_refused(number: u32, place: usize) -> Answers {
-    [Some((number, place, 0)); 6]
+    [Some((number, place, 0)); 5]
 }
 
 fn graph_refused(number: u32, place: usize) -> Answers {
     graph_refused_for(number, place, 0)
 }
 
-pub fn graph_refused_for(number: u32, place: usize, second: usize) -> Answers {
+fn graph_refused_for(number: u32, place: usize, second: usize) -> Answers {
     let graph = Some((number, place, second));
-    [None, graph, graph, None, graph, graph]
+    [None, graph, graph, None, graph]
 }
 
-/// What a figure asks of steps and rows the ends ask too.
 fn figure_refused(number: u32, place: usize) -> Answers {
-    let figure = Some((number, place, 0));
-    [None, None, figure, None, None, figure]
-}
-
-/// A waiting node, which is no cause for the ends: they may still be refused for another.
-pub fn waits(node: usize, ends: Option<(u32, usize)>) -> Answers {
-    [None, None, Some((26, node, 0)), None, None, ends.map(|(number, place)| (number, place, 0))]
-}
-
-fn ends_refused(place: usize) -> Answers {
-    [None, None, None, None, None, Some((28, place, 0))]
+    [None, None, Some((number, place, 0)), None, None]
 }
 
 fn step_refused(number: u32, place: usize) -> Answers {
-    [None, None, None, Some((number, place, 0)), None, None]
+    [None, None, None, Some((number, place, 0)), None]
 }
 
 fn index_refused(place: usize) -> Answers {
-    [None, None, None, None, Some((34, place, 0)), None]
+    [None, None, None, None, Some((34, place, 0))]
 }
 
 /// A model of so many variables, entries (3 or more), commands, and branches of
@@ -90,7 +79,6 @@ fn input(name: &'static str, model: Vec<u8>, graph: Vec<u8>, nodes: usize, varia
         graph,
         h: 3,
         rows: [nodes, nodes],
-        lower_rows: [nodes, nodes],
         state: vec![0; variables],
         command: 0,
         branch: 0,
@@ -293,6 +281,13 @@ pub fn limits() -> Vec<Limit> {
         limit.input.rows = rows;
         limits.push(limit);
     }
+    let mut waiting = graph.clone();
+    waiting.nodes[5].kind = WAITING;
+    let mut limit = whole("waiting, h and rows", model.bytes(), waiting.bytes(), figure_refused(26, 5));
+    limit.input.h = MOST_STEPS + 1;
+    limit.input.rows = [0, 0];
+    limits.push(limit);
+
     // Steps.
     for (name, state, command, branch, result, answers) in [
         ("step", vec![0, 0], 0, 1, 2, ACCEPTED),
@@ -317,58 +312,10 @@ pub fn limits() -> Vec<Limit> {
         limits.push(limit);
     }
 
-    limits.extend(ends_limits());
     limits.extend(second_limits());
     limits.extend(readings::cases());
     limits.extend(index_limits());
     limits.extend(crowds());
-    limits
-}
-
-/// The four rows for the ends of the pedal example, which has 6 nodes: as it is printed, where
-/// a figure may be asked for too; and with a node that waits.
-fn ends_limits() -> Vec<Limit> {
-    let (model, mut graph) = pedal();
-    let limit = |(name, h, rows, lower_rows, answers), graph: &GraphData| {
-        let mut limit = Limit { input: input(name, model.bytes(), graph.bytes(), 6, 2), answers };
-        (limit.input.h, limit.input.rows, limit.input.lower_rows) = (h, rows, lower_rows);
-        limit
-    };
-    let over = MOST_STEPS + 1;
-    let finished = [
-        ("four rows longer", 4, [7, 8], [9, 10], ACCEPTED),
-        ("third row short by one", 3, [6, 6], [5, 6], ends_refused(2)),
-        ("fourth row short by one", 3, [6, 6], [6, 5], ends_refused(3)),
-        ("third row short at an odd h", 1, [7, 7], [5, 7], ends_refused(2)),
-        ("fourth row short at h of 0", 0, [6, 6], [6, 5], ends_refused(3)),
-        ("third and fourth row short", 2, [6, 6], [5, 5], ends_refused(2)),
-        ("no third row", 2, [6, 6], [0, 6], ends_refused(2)),
-        ("second and third row short", 2, [6, 5], [5, 6], figure_refused(28, 1)),
-        ("second and fourth row short", 2, [6, 5], [6, 5], figure_refused(28, 1)),
-        ("first and fourth row short", 2, [5, 6], [6, 5], figure_refused(28, 0)),
-        ("all four rows short", 2, [5, 5], [5, 5], figure_refused(28, 0)),
-        ("no four rows", 0, [0, 0], [0, 0], figure_refused(28, 0)),
-        ("h of 10,001 and a fourth row short", over, [6, 6], [6, 5], figure_refused(27, 0)),
-    ];
-    let mut limits: Vec<Limit> = finished.into_iter().map(|case| limit(case, &graph)).collect();
-
-    graph.nodes[5].kind = WAITING;
-    let waiting = [
-        ("waiting", 3, [6, 6], [6, 6], waits(5, None)),
-        ("waiting, h of 0", 0, [6, 7], [8, 9], waits(5, None)),
-        ("waiting, h of 10,000", MOST_STEPS, [6, 6], [7, 6], waits(5, None)),
-        ("waiting, h of 10,001", over, [6, 6], [6, 6], waits(5, Some((27, 0)))),
-        ("waiting, h and rows", over, [0, 0], [0, 0], waits(5, Some((27, 0)))),
-        ("waiting, first row short by one", 3, [5, 6], [6, 6], waits(5, Some((28, 0)))),
-        ("waiting, second row short by one", 3, [6, 5], [6, 6], waits(5, Some((28, 1)))),
-        ("waiting, third row short by one", 3, [6, 6], [5, 6], waits(5, Some((28, 2)))),
-        ("waiting, fourth row short by one", 3, [6, 6], [6, 5], waits(5, Some((28, 3)))),
-    ];
-    limits.extend(waiting.into_iter().map(|case| limit(case, &graph)));
-
-    // The graph's own refusals come first, the last of them too.
-    graph.nodes[5].value = CERTAIN - 1;
-    limits.push(limit(("waiting under S, h and rows", over, [0, 0], [0, 0], graph_refused(25, 5)), &graph));
     limits
 }
 
@@ -443,10 +390,10 @@ fn index_limits() -> Vec<Limit> {
 /// The most nodes: each with a state of its own that is hard to tell from the others,
 /// and all with one state.
 fn crowds() -> Vec<Limit> {
-    let last = MOST_NODES - 1;
+    let (waiting, last) = (Some((26, 0, 0)), MOST_NODES - 1);
     let mut limits = Vec::new();
     for Crowd { name, pair, absent } in [one_slot(), one_hash()] {
-        let mut limit = of_graph(name, &pair.model, &pair.graph, waits(0, None));
+        let mut limit = of_graph(name, &pair.model, &pair.graph, [None, None, waiting, None, None]);
         let present = [0, 1, last / 2, last].map(|place| &pair.graph.nodes[place].concrete);
         limit.input.batch = present.into_iter().chain(&absent[..4]).flatten().copied().collect();
         limit.input.index_rows[1].0 = 8;
@@ -457,8 +404,7 @@ fn crowds() -> Vec<Limit> {
         ("4,096 nodes of one state", MOST_NODES, None),
         ("4,096 nodes, listing short by one", last, Some((34, 3, 0))),
     ] {
-        let mut limit = of_graph(name, &twins.model, &twins.graph, waits(0, None));
-        limit.answers[4] = index;
+        let mut limit = of_graph(name, &twins.model, &twins.graph, [None, None, waiting, None, index]);
         limit.input.index_rows[2].0 = listing;
         limits.push(limit);
     }

@@ -32,11 +32,9 @@ pub struct Input {
     pub name: &'static str,
     pub model: Vec<u8>,
     pub graph: Vec<u8>,
-    /// For the figure and for the ends: steps, and the lengths of the two rows.
+    /// For the figure: steps, and the lengths of its two rows.
     pub h: usize,
     pub rows: [usize; 2],
-    /// For the ends: the lengths of the third row and the fourth.
-    pub lower_rows: [usize; 2],
     /// For the step: state, command, branch, and the length of the result row.
     pub state: Vec<i16>,
     pub command: usize,
@@ -54,15 +52,6 @@ pub struct Input {
 /// What a row holds before a call, so that what stays can be seen to.
 pub fn row_before(length: usize, salt: u32) -> Vec<u32> {
     (0..length as u32).map(|place| place.wrapping_mul(2_654_435_761) ^ salt).collect()
-}
-
-/// The four rows before a call for the ends; the first two are those of a figure call.
-pub fn ends_before(rows: [usize; 4]) -> [Vec<u32>; 4] {
-    let mut salt = 0;
-    rows.map(|length| {
-        salt += 1;
-        row_before(length, salt)
-    })
 }
 
 pub fn result_before(length: usize) -> Vec<i16> {
@@ -148,14 +137,6 @@ pub struct Pair {
     pub graph: GraphData,
 }
 
-impl Input {
-    /// The lengths of all four rows for the ends.
-    pub fn ends_rows(&self) -> [usize; 4] {
-        let ([first, second], [third, fourth]) = (self.rows, self.lower_rows);
-        [first, second, third, fourth]
-    }
-}
-
 impl Pair {
     pub fn any(random: &mut Random) -> Pair {
         if random.once_in(40) {
@@ -234,7 +215,6 @@ impl Pair {
             record: random.below(records[body]),
             batch,
             index_rows: [(SLOTS, fill), (states + random.below(4), fill), (nodes + random.below(4), fill)],
-            lower_rows: [nodes + random.below(4), nodes + random.below(4)],
         }
     }
 

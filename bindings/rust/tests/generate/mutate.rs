@@ -296,9 +296,8 @@ fn break_arguments(random: &mut Random, input: &mut Input, number: u32) {
     match number {
         27 => input.h = random.pick(&[MOST_STEPS + 1, MOST_STEPS + 2, FIELD_VALUES, 1 << 32, usize::MAX]),
         28 => {
-            let rows = if random.once_in(2) { &mut input.rows } else { &mut input.lower_rows };
-            let row = any_of(random, rows);
-            *row = random.pick(&[0, row.saturating_sub(4)]);
+            let row = random.below(2);
+            input.rows[row] = random.pick(&[0, input.rows[row].saturating_sub(4)]);
         }
         29 => match random.below(3) {
             0 => drop(input.state.pop()),

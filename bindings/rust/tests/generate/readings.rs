@@ -3,7 +3,7 @@
 
 use super::data::*;
 use super::explore::Plan;
-use super::limits::{graph_refused_for, of_graph, waits, Limit};
+use super::limits::{of_graph, Answers, Limit};
 use super::models::{Builder, Shape};
 use super::mutate::choose;
 use super::random::Random;
@@ -253,8 +253,7 @@ fn alone(
         node.push_edge(0, vec![0]);
     }
     let refusal = refusal.map(|(number, second)| (number, 0, second));
-    let step = step_answer(model, model.commands[0][0]);
-    let answers = [None, refusal, refusal, step, refusal, refusal];
+    let answers: Answers = [None, refusal, refusal, step_answer(model, model.commands[0][0]), refusal];
     let mut limit = of_graph(name, model, &GraphData { nodes: vec![node] }, answers);
     limit.input.state = model.initial();
     limit
@@ -339,10 +338,12 @@ fn follows(name: &'static str, number: Made, size: i16, known: bool) -> [Limit; 
     let graph = GraphData { nodes: vec![root, NodeData::new(WAITING, CERTAIN, 2, &next)] };
     let mut wrong = graph.clone();
     wrong.nodes[1].label[1] += 1;
-    let refused = graph_refused_for(21, 0, 1);
+    let refused = Some((21, 0, 1));
+    let answers = [None, refused, refused, None, refused];
+    let waiting = [None, None, Some((26, 1, 0)), None, None];
     [
-        of_graph(name, &model, &graph, if known { waits(1, None) } else { refused }),
-        of_graph(name, &model, &wrong, refused),
+        of_graph(name, &model, &graph, if known { waiting } else { answers }),
+        of_graph(name, &model, &wrong, answers),
     ]
 }
 
@@ -364,8 +365,8 @@ fn in_order() -> Vec<Limit> {
         let mut root = NodeData::new(EXPANDED, CERTAIN, 0, &[0, 0]);
         (0..2).for_each(|command| root.push_edge(command, vec![1]));
         let nodes = vec![root, NodeData::new(WAITING, CERTAIN, tracked, &[0, 0])];
-        let refused = |(number, place, second)| graph_refused_for(number, place, second);
-        of_graph(name, &model, &GraphData { nodes }, answer.map_or(waits(1, None), refused))
+        let figure = answer.or(Some((26, 1, 0)));
+        of_graph(name, &model, &GraphData { nodes }, [None, answer, figure, None, answer])
     };
     vec![
         limit("an unknown new value that nobody tracks", [holds, holds], 0, None),

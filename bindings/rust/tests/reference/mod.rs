@@ -17,7 +17,7 @@ mod combinations;
 pub mod situations;
 
 use combinations::{members, unchanging};
-use laguipy::{Ends, Refusal, Summary};
+use laguipy::{Refusal, Summary};
 use std::cell::OnceCell;
 use std::ops::{Range, RangeInclusive};
 
@@ -648,34 +648,6 @@ struct Edge {
     successors: Range<usize>,
 }
 
-/// Which end of a figure: rounds of the upper one never come to less than the best chance,
-/// those of the lower one never to more.
-#[derive(Clone, Copy)]
-enum End {
-    Upper,
-    Lower,
-}
-
-impl End {
-    /// The figure of a node that is not expanded; a covered one has yet to take its cover's.
-    fn unexpanded(self, kind: Kind) -> u32 {
-        match (self, kind) {
-            (End::Lower, Kind::Waiting) => 0,
-            _ => CERTAIN,
-        }
-    }
-
-    /// The sum of weight × units over an edge, divided once: at most S, as the units are and
-    /// the weights come to the total.
-    fn divided(self, sum: u64, total: u32) -> u32 {
-        let total = u64::from(total);
-        match self {
-            End::Upper => sum.div_ceil(total) as u32,
-            End::Lower => (sum / total) as u32,
-        }
-    }
-}
-
 /// A graph: a node has a range of the edges, an edge a range of the successors.
 struct Graph {
     nodes: Vec<Node>,
@@ -868,39 +840,26 @@ impl Graph {
     }
 
     /// One round of figures from the last one, each row one figure per node.
-    fn round(&self, model: &Model, end: End, last: &[u32], next: &mut [u32]) {
+    fn round(&self, model: &Model, last: &[u32], next: &mut [u32]) {
         for (node, figure) in self.nodes.iter().zip(next.iter_mut()) {
             *figure = match node.kind {
                 Kind::Expanded => {
                     let sums = self.edges(node).iter().map(|edge| self.weighed(model, edge, |m| last[m]));
-                    end.divided(sums.max().unwrap_or(0), model.total)
+                    let greatest = sums.max().unwrap_or(0);
+                    // At most S, as each figure is and the weights total D.
+                    greatest.div_ceil(u64::from(model.total)) as u32
                 }
-                kind => end.unexpanded(kind),
+                Kind::Waiting | Kind::Covered | Kind::Target => CERTAIN,
             }
         }
         self.take_covers(next);
     }
 
-    fn round_zero(&self, end: End, row: &mut [u32]) {
+    fn round_zero(&self, row: &mut [u32]) {
         for (node, figure) in self.nodes.iter().zip(row.iter_mut()) {
-            *figure = if node.kind == Kind::Expanded { 0 } else { end.unexpanded(node.kind) };
+            *figure = if node.kind == Kind::Expanded { 0 } else { CERTAIN };
         }
         self.take_covers(row);
-    }
-
-    /// Rounds 0 to `h`, of which two stand at a time: round `h` in the row of its parity, and
-    /// the one before it in the other, which is untouched at `h` = 0.
-    fn rounds(&self, model: &Model, end: End, h: usize, rows: [&mut [u32]; 2]) {
-        let [mut last, mut next] = rows.map(|row| &mut row[..self.nodes.len()]);
-        self.round_zero(end, last);
-        for _ in 0..h {
-            self.round(model, end, last, next);
-            if last == next {
-                // So are all rounds from here on.
-                break;
-            }
-            std::mem::swap(&mut last, &mut next);
-        }
     }
 
     /// A covered node takes its cover's figure; covers are not covered.
@@ -1054,39 +1013,23 @@ pub fn figure(
     if let Some(waiting) = graph.nodes.iter().position(|node| node.kind == Kind::Waiting) {
         return refuse(26, waiting);
     }
-    may_have_rounds(&graph, h, [first.len(), second.len()])?;
-    graph.rounds(&model, End::Upper, h, [first, second]);
-    Ok(Part { second: h % 2 == 1, nodes: graph.nodes.len() })
-}
-
-/// Rows 27 and 28: so many steps, and rows of these lengths.
-fn may_have_rounds<const N: usize>(graph: &Graph, h: usize, rows: [usize; N]) -> Checked<()> {
     ensure(h <= STEPS, 27, 0)?;
-    let mut lengths = rows.into_iter().enumerate();
-    lengths.try_for_each(|(place, length)| ensure(length >= graph.nodes.len(), 28, place))
-}
+    let nodes = graph.nodes.len();
+    ensure(first.len() >= nodes, 28, 0)?;
+    ensure(second.len() >= nodes, 28, 1)?;
 
-/// The two-ended figure of the root for `h` steps: the upper rounds in the first two rows,
-/// the lower ones in the last two, both as a figure has them. Each end is the root's units,
-/// which a number of binary64 holds, divided by certainty.
-pub fn ends(
-    model: &[u8],
-    graph: &[u8],
-    h: usize,
-    first: &mut [u32],
-    second: &mut [u32],
-    third: &mut [u32],
-    fourth: &mut [u32],
-) -> Result<Ends, Refusal> {
-    let (model, graph) = checked(model, graph)?;
-    may_have_rounds(&graph, h, [first.len(), second.len(), third.len(), fourth.len()])?;
-    let shown = |end, even: &mut [u32], odd: &mut [u32]| {
-        graph.rounds(&model, end, h, [even, odd]);
-        let root = if h.is_multiple_of(2) { even[0] } else { odd[0] };
-        f64::from(root) / f64::from(CERTAIN)
-    };
-    let high = shown(End::Upper, first, second);
-    Ok(Ends { low: shown(End::Lower, third, fourth), high })
+    let mut last = &mut first[..nodes];
+    let mut next = &mut second[..nodes];
+    graph.round_zero(last);
+    for _ in 0..h {
+        graph.round(&model, last, next);
+        if last == next {
+            // So are all rounds from here on.
+            break;
+        }
+        std::mem::swap(&mut last, &mut next);
+    }
+    Ok(Part { second: h % 2 == 1, nodes })
 }
 
 /// The graph, where slots, batch, answers and listing of these lengths are right for it,

@@ -1,30 +1,24 @@
 use mathlib.Core.Path.{refl}
 use borrow.Author.Rules.{rules}
-use Rattle.sums.proofs.NodeLaws.{some-total}
-use Rattle.rounds.proofs.UpperLaws.{figures-upper, even_is, odd_is}
 use Rattle.figures.proofs.CallLaws.{rows_long, filled, stayed}
 use Rattle.figures.proofs.figure_fill.Statement.{statement}
 use Rattle.figures.proofs.figure_fill.Tie as tie
 
-upper-requires : tie.Need-upper-requires
-upper-requires c κs = some-total c.before.before.before.before.before.before.before.requires
-
 run-rounds-requires : tie.Need-run-rounds-requires
 run-rounds-requires c κs =
-    let s = c.before.before.before.before.before.before.before.before.before.before in
-    (s.requires, (rows_long s.args.m.now s.args.g.now s.args.h s.args.first.now s.args.second.now (c.before.before.before.before.before.rows-check.ensures s.args.first.now s.args.second.now refl refl) c.before.before.before.enum_told.given.1, c.before.before.upper.ensures.1))
+    let s = c.before.before.before.before.before.before.before.before.before in
+    (s.requires, rows_long s.args.m.now s.args.g.now s.args.h s.args.first.now s.args.second.now (c.before.before.before.before.rows-check.ensures _ _ refl refl) c.before.before.enum_told.given.1)
 
 returns : tie.Need-returns
 returns c =
-    let s = c.before.before.before.before.before.before.before.before.before.before.before.before.before.before.before in
-    let u = c.before.before.before.before.before.before.before.upper.ensures.0 in
+    let s = c.before.before.before.before.before.before.before.before.before.before.before.before.before.before in
     let f = c.before.before.before.before.run-rounds.ensures in
-    filled s.args.m.now s.args.g.now s.args.h s.args.first.now s.args.second.now (c.before.before.before.before.before.before.before.before.before.before.rows-check.ensures s.args.first.now s.args.second.now refl refl) c.before.before.before.before.before.before.before.before.enum_told.given.1 (even_is _ _ u (figures-upper _ _) s.args.h s.args.first.now f.0) (odd_is _ _ u (figures-upper _ _) s.args.h s.args.second.now f.1)
+    filled s.args.m.now s.args.g.now s.args.h s.args.first.now s.args.second.now (c.before.before.before.before.before.before.before.before.before.rows-check.ensures _ _ refl refl) c.before.before.before.before.before.before.before.enum_told.given.1 f.0 f.1
 
 returns-2 : tie.Need-returns-2
 returns-2 c =
     let s = c.before.before.before.before.before.before.before.before in
-    stayed s.args.m.now s.args.g.now s.args.h s.args.first.now s.args.second.now (c.before.before.before.rows-check.ensures s.args.first.now s.args.second.now refl refl) c.before.o.given.1
+    stayed s.args.m.now s.args.g.now s.args.h s.args.first.now s.args.second.now (c.before.before.before.rows-check.ensures _ _ refl refl) c.before.o.given.1
 
 pub figure-fill-spec : {M : Type 1} → statement M
 figure-fill-spec =
@@ -32,7 +26,6 @@ figure-fill-spec =
     (tie.spec
     (λ c κs. search rules)
     (λ c. search rules)
-    upper-requires
     run-rounds-requires
     (λ c. search rules)
     (λ c. search rules)

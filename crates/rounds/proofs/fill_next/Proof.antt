@@ -1,5 +1,5 @@
 use Rattle.folder.proofs.FillLaws.{Filled, fill_start, fill-next, fill-over}
-use Rattle.sums.proofs.NodeLaws.{Parts, node-ready, node-next, node-small}
+use Rattle.sums.proofs.NodeLaws.{Parts, some-total, node-ready, node-next, node-small}
 use Rattle.rounds.proofs.NodeLaws.{node-figure}
 use Prim.Native.Nat.{◌<◌, ◌-◌}
 use mathlib.Core.Path.{◌≡◌, sym}
@@ -14,20 +14,17 @@ use Rattle.rounds.proofs.fill_next.Statement.{statement}
 use Rattle.rounds.proofs.fill_next.Tie as tie
 
 abbrev invariant-loop : tie.invariant-loop
-invariant-loop m g weights firsts r src dst₀ size nodes cs nb eb at₀ n₀ dst at n = Filled (own_next r (model_of m) (simulation_of (model_of m) g) src) nodes dst₀ dst n × (at ≡ starts_at (model_of m) g n)
+invariant-loop m g weights firsts src dst₀ size nodes d cs nb eb at₀ n₀ dst at n = Filled (own_next (model_of m) (simulation_of (model_of m) g) src) nodes dst₀ dst n × (at ≡ starts_at (model_of m) g n)
 
 abbrev decreases-loop : tie.decreases-loop
-decreases-loop m g weights firsts r src dst₀ size nodes cs nb eb at₀ n₀ dst at n = nodes - n
-
-abbrev start : tie.After-body3 invariant-loop decreases-loop → tie.Start invariant-loop decreases-loop
-start c = c.before.before.before.before.before.before.before.before.before.before
+decreases-loop m g weights firsts src dst₀ size nodes d cs nb eb at₀ n₀ dst at n = nodes - n
 
 -- What the code has read before the loop.
 parts : (c : tie.After-body3 invariant-loop decreases-loop)
-    → Parts (start c).args.m.now (start c).args.g.now c.before.before.before.shape_of.result.size (start c).args.r.total c.before.before.body.result.now c.before.body2.result.now c.body3.result.now
+    → Parts c.before.before.before.before.before.before.before.before.before.before.before.args.m.now c.before.before.before.before.before.before.before.before.before.before.before.args.g.now c.before.before.before.before.shape_of.result.size c.before.before.before.total_of.result c.before.before.body.result.now c.before.body2.result.now c.body3.result.now
 parts c = record {
-  size_is = c.before.before.before.shape_of.ensures.size_is;
-  total = (start c).requires.1.1.1.1.total-is;
+  size_is = c.before.before.before.before.shape_of.ensures.size_is;
+  total = c.before.before.before.total_of.ensures.0;
   commands = c.before.before.body.ensures;
   nodes = c.before.body2.ensures;
   edges = c.body3.ensures;
@@ -38,40 +35,37 @@ loop-holds c = (fill_start _ _ _, sym (place_none _ _))
 
 best-of-requires : tie.Need-best-of-requires invariant-loop decreases-loop
 best-of-requires c κs =
-    let b = c.before.before.before.before in
-    let s = start b in
+    let s = c.before.before.before.before.before.before.before.before.before.before.before.before.before.before.before in
     let l = c.before.before.before.loop in
-    node-ready s.pre.0 (parts b) s.pre.1.0 (omega (arith, b.before.before.before.shape_of.ensures)) l.invariant.1 c.field2.ensures.0 _ s.pre.1.1.0.long
+    node-ready s.requires.0 (parts c.before.before.before.before) s.requires.1.0 (omega (arith, c.before.before.before.before.before.before.before.before.shape_of.ensures)) l.invariant.1 c.field2.ensures.0 _ s.requires.1.1.0.long
 
 figure-by-requires : tie.Need-figure-by-requires invariant-loop decreases-loop
 figure-by-requires c κs =
-    let b = c.before.before.before.before.before in
-    let s = start b in
+    let s = c.before.before.before.before.before.before.before.before.before.before.before.before.before.before.before.before in
     let l = c.before.before.before.before.loop in
-    let t = s.pre.1.1.1.1 in (
-      t.part,
-      t.total-small,
-      node-small s.pre.0 (parts b) s.pre.1.0 (omega (arith, b.before.before.before.shape_of.ensures)) l.invariant.1 c.before.field2.ensures.0 _ c.best_of.ensures.0 s.pre.1.1.0,
+    let t = c.before.before.before.before.before.before.before.before.total_of.ensures in (
+      omega (arith, t.0, some-total s.requires.0),
+      t.1,
+      node-small s.requires.0 (parts c.before.before.before.before.before) s.requires.1.0 (omega (arith, c.before.before.before.before.before.before.before.before.before.shape_of.ensures)) l.invariant.1 c.before.field2.ensures.0 _ c.best_of.ensures.0 s.requires.1.1.0,
     )
 
 slice-write-dst : tie.Need-slice-write-dst invariant-loop decreases-loop
-slice-write-dst c = omega (arith, c.before.before.before.before.before.loop.invariant.0, c.before.before.before.before.before.before.before.before.before.shape_of.ensures, c.before.before.before.before.before.before.before.before.before.before.before.before.before.before.before.before.requires.1.1.1.0)
+slice-write-dst c = omega (arith, c.before.before.before.before.before.before.before.before.before.before.shape_of.ensures, c.before.before.before.before.before.before.before.before.before.before.before.before.before.before.before.before.before.requires.1.1.1)
 
 loop-again : tie.Need-loop-preserved invariant-loop decreases-loop
 loop-again c =
-    let b = c.before.before.before.before.before.before in
-    let s = start b in
+    let s = c.before.before.before.before.before.before.before.before.before.before.before.before.before.before.before.before.before in
     let l = c.before.before.before.before.before.loop in
-    let k : l.n < nodes_of s.args.m.now s.args.g.now = omega (arith, b.before.before.before.shape_of.ensures) in
+    let k : l.n < nodes_of s.args.m.now s.args.g.now = omega (arith, c.before.before.before.before.before.before.before.before.before.before.shape_of.ensures) in
     let q = c.before.before.field2.ensures.0 in
-    let t = c.before.best_of.ensures in (
-      fill-next l.invariant.0 c.before.before.before.before.loop-test.true (omega (arith, b.before.before.before.shape_of.ensures, s.pre.1.1.1.0))
-          (node-figure s.pre.0 s.args.r (parts b) s.pre.1.0 k l.invariant.1 q _ t.0 c.before.before.before.field.ensures.0 c.figure-by.ensures),
-      node-next s.pre.0 (parts b) s.pre.1.0 k l.invariant.1 q t.1,
+    let b = c.before.best_of.ensures in (
+      fill-next l.invariant.0 c.before.before.before.before.loop-test.true (omega (arith, c.before.before.before.before.before.before.before.before.before.before.shape_of.ensures, s.requires.1.1.1))
+          (node-figure s.requires.0 (parts c.before.before.before.before.before.before) s.requires.1.0 k l.invariant.1 q _ b.0 c.before.before.before.field.ensures.0 c.figure-by.ensures),
+      node-next s.requires.0 (parts c.before.before.before.before.before.before) s.requires.1.0 k l.invariant.1 q b.1,
     )
 
 returns : tie.Need-returns invariant-loop decreases-loop
-returns c = fill-over c.before.loop.invariant.0 c.loop-test.false c.before.before.before.before.before.shape_of.ensures.nodes-are
+returns c = fill-over c.before.loop.invariant.0 c.loop-test.false c.before.before.before.before.before.before.shape_of.ensures.nodes-are
 
 pub fill-next-spec : {M : Type 1} → statement M
 fill-next-spec =
@@ -79,6 +73,7 @@ fill-next-spec =
     (tie.spec
     invariant-loop
     decreases-loop
+    (λ c κs. search rules)
     (λ c κs. search rules)
     (λ c κs. search rules)
     (λ c κs. search rules)

@@ -11,17 +11,17 @@ use Rattle.rounds.proofs.fill_start.Statement.{statement}
 use Rattle.rounds.proofs.fill_start.Tie as tie
 
 abbrev invariant-loop : tie.invariant-loop
-invariant-loop m g r dst₀ size nodes nb n₀ dst n = Filled (own_start r (model_of m) (simulation_of (model_of m) g)) nodes dst₀ dst n
+invariant-loop m g dst₀ size nodes nb n₀ dst n = Filled (own_start (model_of m) (simulation_of (model_of m) g)) nodes dst₀ dst n
 
 abbrev decreases-loop : tie.decreases-loop
-decreases-loop m g r dst₀ size nodes nb n₀ dst n = nodes - n
+decreases-loop m g dst₀ size nodes nb n₀ dst n = nodes - n
 
 loop-again : tie.Need-loop-preserved invariant-loop decreases-loop
 loop-again c =
     let l = c.before.before.before.loop in
     let h = c.before.before.before.before.before.shape_of.ensures in
     fill-next l.invariant c.before.before.loop-test.true (omega (arith, h.nodes-are))
-    (c.figure-by.ensures ∙ rw (c.before.field.ensures.0, h.size_is, c.before.before.before.before.body.ensures) (sym (own-start _ _ _ c.before.before.before.before.before.before.before.before.before.requires.1.1.part l.n)))
+    (c.figure-by.ensures ∙ rw (c.before.field.ensures.0, h.size_is, c.before.before.before.before.body.ensures) (sym (own-start _ _ l.n)))
 
 returns : tie.Need-returns invariant-loop decreases-loop
 returns c = fill-over c.before.loop.invariant c.loop-test.false c.before.before.before.shape_of.ensures.nodes-are

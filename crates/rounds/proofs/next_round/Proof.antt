@@ -8,7 +8,7 @@ use Rattle.rounds.proofs.next_round.Tie as tie
 returns : tie.Need-returns
 returns c =
     let s = c.before.before.before.before.before.before.before.before.before.before.before.before.before.before in
-    c.before.before.fill-covers.ensures ∙ ap (cover_row s.args.m.now s.args.g.now) c.before.before.before.before.before.before.fill-next.ensures ∙ next_both s.requires.0 s.args.r s.args.src.now s.args.dst.now
+    c.before.before.fill-covers.ensures ∙ ap (cover_row s.args.m.now s.args.g.now) c.before.before.before.before.before.before.fill-next.ensures ∙ next_both s.requires.0 c.before.before.before.before.before.before.before.before.before.before.before.before.before.before.args.src.now s.args.dst.now
 
 pub next-round-spec : {M : Type 1} → statement M
 next-round-spec = tie.close (tie.spec (λ c κs. search rules) (λ c κs. search rules) (λ c. search rules) returns)

@@ -9,13 +9,13 @@ next-round-requires : tie.Need-next-round-requires
 unfolding held_in
 next-round-requires c κs =
     let p = c.before.before.before.before.before.before.before.before.before.requires in
-    (p.0, (p.1.0, (rw (eq-eqb _ _ c.before.before.if1.true) at p.1.1.0, (p.1.1.1.0.1, p.1.1.1.1))))
+    (p.0, (p.1.0, (rw (eq-eqb _ _ c.before.before.if1.true) at p.1.1.0, p.1.1.1.1)))
 
 next-round-requires-2 : tie.Need-next-round-requires-2
 unfolding held_in
 next-round-requires-2 c κs =
     let p = c.before.before.before.before.before.before.before.before.before.requires in
-    (p.0, (p.1.0, (rw (ne_eqb _ _ c.before.before.if1.false) at p.1.1.0, (p.1.1.1.0.0, p.1.1.1.1))))
+    (p.0, (p.1.0, (rw (ne_eqb _ _ c.before.before.if1.false) at p.1.1.0, p.1.1.1.0)))
 
 returns : tie.Need-returns
 unfolding turn_first turn_second

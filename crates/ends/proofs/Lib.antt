@@ -1,5 +1,0 @@
-pub mod Quotient
-pub mod CallLaws
-pub mod RowLaws
-pub mod Decided
-pub mod Given

@@ -1,3 +1,0 @@
-pub mod Shown
-pub mod Ends
-pub mod Given
