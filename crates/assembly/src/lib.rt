@@ -21,7 +21,7 @@ use folder::{Outcome, Refusal};
 use graph::{LEAST_BYTES, MOST_BYTES, MOST_NODES};
 
 // The length of a graph, or why there is none.
-#[derive(Drop)]
+#[derive(Clone, Copy)]
 pub enum BuildAnswer {
     Built(usize),
     Refused(Refusal),

@@ -16,7 +16,7 @@ use graph::{LEAST_BYTES, MOST_NODES};
 use work::Work;
 
 // How many nodes and bytes a graph comes to.
-#[derive(Drop)]
+#[derive(Clone, Copy)]
 pub struct Size {
     pub nodes: usize,
     pub len: usize,

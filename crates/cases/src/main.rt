@@ -22,7 +22,7 @@ const ROOM: usize = MODEL_ROOM + GRAPH_ROOM;
 const SCRIPT_ROOM: usize = 65536;
 
 // Where the model and the graph in the room end.
-#[derive(Drop)]
+#[derive(Clone, Copy)]
 struct Folders {
     model: usize,
     graph: usize,

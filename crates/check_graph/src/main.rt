@@ -14,7 +14,7 @@ const MOST: usize = 65536;
 const ROOM: usize = MOST + 1;
 
 // What reading a file gave: nothing, or so many bytes at the start of the buffer.
-#[derive(Drop)]
+#[derive(Clone, Copy)]
 enum Reading {
     Failed,
     Bytes(usize),

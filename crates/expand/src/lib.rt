@@ -185,7 +185,7 @@ fn open_guard(m: &[u8], g: &[u8], n: usize, masks: &[u16], state: &[i64], known:
 }
 
 // A rule of a node: whether it holds, and if not, the second place of its refusal.
-#[derive(Drop)]
+#[derive(Clone, Copy)]
 pub struct Kept {
     pub holds: bool,
     pub second: usize,
@@ -360,7 +360,7 @@ fn reads_in(known: &[u8], state: &[i64], e: usize, z: i64) -> bool
 
 // A branch record and the node that is its successor, by where they start in their bodies, and the set of what that node
 // tracks, which is read once for all variables.
-#[derive(Drop)]
+#[derive(Clone, Copy)]
 struct Lead {
     from: usize,
     to: usize,
@@ -518,7 +518,7 @@ fn apart_by(
 }
 
 // An edge: where it stands, and the branch records of its command, from `first` on.
-#[derive(Drop)]
+#[derive(Clone, Copy)]
 struct Edge {
     at: usize,
     first: usize,
@@ -572,7 +572,7 @@ fn first_bad_branch(
 }
 
 // B2 of a node: whether it holds; if so, where the next node's edges start; and if not, the second place of its refusal.
-#[derive(Drop)]
+#[derive(Clone, Copy)]
 pub struct Followed {
     pub holds: bool,
     pub next: usize,
@@ -591,7 +591,7 @@ fn verdict(holds: bool, next: usize, second: usize) -> Followed
 
 // The same as far as the flags tell; where it does not hold, `next` is where the edge stands that does not follow, with its
 // number and the record of its branch.
-#[derive(Drop)]
+#[derive(Clone, Copy)]
 struct Walk {
     holds: bool,
     next: usize,

@@ -25,7 +25,7 @@ pub const HIGHEST: i64 = 1000000;
 // The tracked set that has every variable.
 pub const ALL_TRACKED: usize = (1 << MOST_VARIABLES) - 1;
 
-#[derive(Drop)]
+#[derive(Clone, Copy)]
 pub enum Arith {
     Add,
     Subtract,
@@ -34,21 +34,21 @@ pub enum Arith {
     Larger,
 }
 
-#[derive(Drop)]
+#[derive(Clone, Copy)]
 pub enum Relation {
     Equal,
     Less,
     AtMost,
 }
 
-#[derive(Drop)]
+#[derive(Clone, Copy)]
 pub enum Join {
     And,
     Or,
 }
 
 // An entry as a number, its parts by their entry numbers. `If` has its truth first.
-#[derive(Drop)]
+#[derive(Clone, Copy)]
 pub enum NumberForm {
     Constant(i64),
     Variable(usize),
@@ -58,7 +58,7 @@ pub enum NumberForm {
 }
 
 // An entry as a truth.
-#[derive(Drop)]
+#[derive(Clone, Copy)]
 pub enum TruthForm {
     Compare(Relation, usize, usize),
     Not(usize),
@@ -68,13 +68,13 @@ pub enum TruthForm {
 }
 
 // The three-way reading of a number and of a truth in a label.
-#[derive(Drop)]
+#[derive(Clone, Copy)]
 pub enum Number {
     Known(i64),
     Unknown,
 }
 
-#[derive(Drop)]
+#[derive(Clone, Copy)]
 pub enum Truth {
     True,
     False,
@@ -82,20 +82,20 @@ pub enum Truth {
 }
 
 // The same, and where it is unknown the lowest variable that the label would have to track besides (document 02, 2.2).
-#[derive(Drop)]
+#[derive(Clone, Copy)]
 pub enum NumberReading {
     Known(i64),
     Lacks(usize),
 }
 
-#[derive(Drop)]
+#[derive(Clone, Copy)]
 pub enum TruthReading {
     True,
     False,
     Lacks(usize),
 }
 
-#[derive(Drop)]
+#[derive(Clone, Copy)]
 pub struct Range {
     pub low: i64,
     pub high: i64,

@@ -15,7 +15,7 @@ pub const SIGNED_SPAN: i64 = FIELD_LIMIT as i64;
 
 // A refusal: its number in document 01's table, and the two places that the table returns with it. The second is 0 but for
 // the rules that say which variable is concerned.
-#[derive(Drop)]
+#[derive(Clone, Copy)]
 pub struct Refusal {
     pub number: usize,
     pub place: usize,
@@ -23,14 +23,14 @@ pub struct Refusal {
 }
 
 // The first broken rule of a place: its number, and the second place that goes with it. None is broken: 0 and 0.
-#[derive(Drop)]
+#[derive(Clone, Copy)]
 pub struct Cause {
     pub number: usize,
     pub second: usize,
 }
 
 // What a check answers.
-#[derive(Drop)]
+#[derive(Clone, Copy)]
 pub enum Outcome {
     Accepted,
     Refused(Refusal),

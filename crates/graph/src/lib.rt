@@ -42,7 +42,7 @@ pub const COVERED: usize = 2;
 pub const TARGET: usize = 3;
 
 // Of an accepted graph: the root's value, and how many nodes there are of each kind.
-#[derive(Drop)]
+#[derive(Clone, Copy)]
 pub struct Summary {
     pub root: usize,
     pub waiting: usize,
@@ -51,7 +51,7 @@ pub struct Summary {
     pub target: usize,
 }
 
-#[derive(Drop)]
+#[derive(Clone, Copy)]
 pub enum GraphAnswer {
     Accepted(Summary),
     Refused(Refusal),
@@ -198,7 +198,7 @@ pub fn edge_size(cs: &[u8], es: &[u8], k: usize) -> usize
 }
 
 // An edge: it fits, and where it ends.
-#[derive(Drop)]
+#[derive(Clone, Copy)]
 struct Edge {
     fits: bool,
     end: usize,
@@ -218,7 +218,7 @@ fn edge_at(cs: &[u8], es: &[u8], nodes: usize, k: usize) -> Edge
 }
 
 // A walk over a node's edges: the lowest that does not fit, or their count, and where it ended.
-#[derive(Drop)]
+#[derive(Clone, Copy)]
 struct Walk {
     bad: usize,
     at: usize,

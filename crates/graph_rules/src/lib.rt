@@ -19,7 +19,7 @@ use graph::{EXPANDED, MOST_NODES, Summary, TARGET};
 use model::{MOST_COMMANDS, MOST_RECORDS};
 
 // Of a node: its first broken rule; and if none is broken, where the next node's edges start.
-#[derive(Drop)]
+#[derive(Clone, Copy)]
 struct Ruled {
     broken: Cause,
     next: usize,

@@ -17,7 +17,7 @@ use folder::{Outcome, Refusal};
 use graph::{COVERED, MOST_NODES, SLOTS};
 
 // What the index call answers: how many nodes it lists, or a refusal.
-#[derive(Drop)]
+#[derive(Clone, Copy)]
 pub enum IndexAnswer {
     Accepted(usize),
     Refused(Refusal),

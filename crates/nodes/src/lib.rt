@@ -10,7 +10,7 @@ ghost use Rattle.held.specs.Held.{kind_field, cover_field, child_field, tracked_
 ghost use Rattle.nodes.specs.Born.{on_in, records_in, children_in, edges_in, new_field, new_fields, ResultsFit, Node, Family, AllFit, Brood, BroodFits};
 
 // What the builder may do next. Track: node and variable. Cover: node and cover.
-#[derive(Drop)]
+#[derive(Clone, Copy)]
 pub enum Move {
     Track(usize, usize),
     Adopt(usize),
@@ -126,7 +126,7 @@ pub fn if_on(on: bool, n: usize) -> usize
 }
 
 // What an expansion adds: nodes, and bytes of edges.
-#[derive(Drop)]
+#[derive(Clone, Copy)]
 pub struct Cost {
     pub births: usize,
     pub bytes: usize,
@@ -166,7 +166,7 @@ fn new_field(vars: usize, bs: &[u8], row: &[i64], r: usize, parent: usize, f: us
 }
 
 // The branch records and the nodes that they give, from the first on, and whose children these are.
-#[derive(Drop)]
+#[derive(Clone, Copy)]
 pub struct Births {
     pub record: usize,
     pub node: usize,

@@ -133,7 +133,7 @@ pub fn is_move(mv: Move) -> bool
 }
 
 // How many nodes there are, which was opened last, and from where to where nodes may be marked.
-#[derive(Drop)]
+#[derive(Clone, Copy)]
 pub struct Marks {
     pub nodes: usize,
     pub fresh: usize,

@@ -22,7 +22,7 @@ fn total_of(m: &[u8]) -> usize
 }
 
 // Of a graph: the bytes of a node, and how many nodes there are.
-#[derive(Drop)]
+#[derive(Clone, Copy)]
 struct Shape {
     size: usize,
     nodes: usize,

@@ -61,7 +61,7 @@ pub fn find(s: &[u8], from: usize, c: u8) -> usize {
 // Where reading and writing stand: the next character, the next byte, the body's start and entry, the bytes of a plain
 // number, the number that is being read and its mark (0 before it starts), and of the group and the one around it where
 // it starts and how often it is still to be read.
-#[derive(Drop)]
+#[derive(Clone, Copy)]
 struct Pen {
     read: usize,
     at: usize,

@@ -15,7 +15,7 @@ const LEVELS: usize = 12;
 const FUEL: usize = 2000;
 
 // What trying a bound finds: where D to the power k times S is past 64 bits it is not tried.
-#[derive(Drop)]
+#[derive(Clone, Copy)]
 pub enum Trial {
     Holds,
     Broken,
@@ -23,7 +23,7 @@ pub enum Trial {
 }
 
 // What a step is due to answer; number 0 for acceptance.
-#[derive(Drop)]
+#[derive(Clone, Copy)]
 pub struct Verdict {
     pub number: usize,
     pub place: usize,

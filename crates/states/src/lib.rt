@@ -335,7 +335,7 @@ fn raise_all(n: usize, other: &[u8], flags: &mut [u8])
 }
 
 // What is asked: the entry, what varies in it, what the label tracks, and how many combinations there are.
-#[derive(Drop)]
+#[derive(Clone, Copy)]
 struct Question {
     entry: usize,
     mask: usize,

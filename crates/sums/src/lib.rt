@@ -60,7 +60,7 @@ fn branches_of(cs: &[u8], c: usize) -> usize
 }
 
 // Of a node's edges: the greatest sum, or 0, and where the next node's edges start.
-#[derive(Drop)]
+#[derive(Clone, Copy)]
 pub struct Best {
     pub greatest: usize,
     pub next: usize,

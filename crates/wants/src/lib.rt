@@ -120,7 +120,7 @@ fn truth_wants(
 }
 
 // A number, and whether it is asked for.
-#[derive(Drop)]
+#[derive(Clone, Copy)]
 struct Question {
     entry: usize,
     asked: bool,
@@ -206,7 +206,7 @@ fn own_wants(
 // ---- 21
 
 // A branch record and the child that it gives; of several, the first and how many.
-#[derive(Drop)]
+#[derive(Clone, Copy)]
 struct Lead {
     record: usize,
     node: usize,
@@ -310,7 +310,7 @@ fn branches_want(
 }
 
 // What the children want, and where they end if they want nothing.
-#[derive(Drop)]
+#[derive(Clone, Copy)]
 struct Results {
     wanted: usize,
     end: usize,
@@ -365,7 +365,7 @@ fn results_want(
 // ---- a node
 
 // What an expanded node's label wants; and where its children start and end, if it wants nothing.
-#[derive(Drop)]
+#[derive(Clone, Copy)]
 pub struct Wish {
     pub wanted: usize,
     pub start: usize,

@@ -11,7 +11,7 @@ use nodes::STATE;
 
 // Of a graph while it is built: how many nodes it has and how many bytes; which node was opened last, past all nodes if its
 // label is taken into account; from where to where nodes may be marked; below which none waits; and how many wait.
-#[derive(Drop)]
+#[derive(Clone, Copy)]
 pub struct Work {
     pub nodes: usize,
     pub len: usize,
