@@ -1,0 +1,11 @@
+use mathlib.Core.Path.{◌∙◌, ap₂}
+use mathlib.Core.Bool.{◌&&◌}
+use lib.Signed.{lt_z}
+use Rattle.folder.proofs.Signed.{back, back_fits}
+use Rattle.choices.specs.Next.{stops_at}
+use Rattle.choices.proofs.stops_at.Goals as goal
+
+pub returns : goal.returns
+unfolding stops_at
+returns c =
+    ap₂ ◌&&◌ c.is_free.ensures (c.less.ensures ∙ ap₂ lt_z (back_fits c.ranges.z) (back c.high_at.type-inv ∙ c.high_at.ensures))

@@ -1,0 +1,10 @@
+use Prim.Native.Nat.{◌-◌}
+use Rattle.folder.proofs.ScanLaws.{Scanned}
+use Rattle.expand.specs.Tests.{label_at}
+use Rattle.expand.proofs.first_apart.Given as goal
+
+abbrev pub invariant-loop-v : goal.invariant-loop-v
+invariant-loop-v l = Scanned (label_at l.vars l.nb l.bs l.known l.state l.lead.from l.lead.to) l.vars l.v
+
+abbrev pub decreases-loop-v : goal.decreases-loop-v
+decreases-loop-v l = l.vars - l.v

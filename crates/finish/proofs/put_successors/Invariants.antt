@@ -1,0 +1,10 @@
+use Prim.Native.Nat.{◌+◌, ◌-◌, ◌≤◌}
+use Rattle.folder.specs.Tab.{tab}
+use Rattle.finish.specs.Laid.{Laid}
+use Rattle.finish.proofs.put_successors.Given as goal
+
+abbrev pub invariant-loop-b : goal.invariant-loop-b
+invariant-loop-b l = (l.b ≤ l.initial.nb) × Laid l.x (tab l.b (λ i. l.count + i)) l.at l.nb
+
+abbrev pub decreases-loop-b : goal.decreases-loop-b
+decreases-loop-b l = l.initial.nb - l.b

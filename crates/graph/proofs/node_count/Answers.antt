@@ -1,0 +1,4 @@
+use Rattle.graph.proofs.node_count.Goals as goal
+
+pub returns : goal.returns
+returns c = cc

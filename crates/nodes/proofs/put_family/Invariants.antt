@@ -1,0 +1,9 @@
+use Prim.Native.Nat.{◌-◌, ◌≤◌}
+use Rattle.nodes.specs.Born.{Family}
+use Rattle.nodes.proofs.put_family.Given as goal
+
+abbrev pub invariant-loop-b : goal.invariant-loop-b
+invariant-loop-b l = (l.b ≤ l.parent) × Family l.vars l.bs l.row l.k l.initial.nb l.count l.b l.r l.nb
+
+abbrev pub decreases-loop-b : goal.decreases-loop-b
+decreases-loop-b l = l.parent - l.b

@@ -1,0 +1,9 @@
+use Prim.Native.Nat.{◌-◌}
+use Rattle.repairs.proofs.Searching.{Visited}
+use Rattle.repairs.proofs.first_repair.Given as goal
+
+abbrev pub invariant-loop-n : goal.invariant-loop-n
+invariant-loop-n l = Visited l.m l.masks l.high l.initial.nb.nodes l.initial.nb.low l.initial.nb.high l.n l.nb l.marks
+
+abbrev pub decreases-loop-n : goal.decreases-loop-n
+decreases-loop-n l = l.initial.nb.high - l.n

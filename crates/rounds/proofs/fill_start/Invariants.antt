@@ -1,0 +1,12 @@
+use Prim.Native.Nat.{◌-◌}
+use Rattle.model.specs.Model.{model_of}
+use Rattle.graph.specs.Simulation.{simulation_of}
+use Rattle.folder.proofs.FillLaws.{Filled}
+use Rattle.rounds.specs.Rounds.{own_start}
+use Rattle.rounds.proofs.fill_start.Given as goal
+
+abbrev pub invariant-loop-n : goal.invariant-loop-n
+invariant-loop-n l = Filled (own_start (model_of l.m) (simulation_of (model_of l.m) l.g)) l.nb l.size l.dst l.n
+
+abbrev pub decreases-loop-n : goal.decreases-loop-n
+decreases-loop-n l = l.nb - l.n
