@@ -30,7 +30,7 @@ ANSWERS = {"Accepted", "Refused"}  # which terms have, and the toolchain declare
 def files_below(top, endings):
     found = []
     for folder, folders, names in os.walk(os.path.join(ROOT, top)):
-        folders[:] = [name for name in folders if name not in ("target", "must-fail")]
+        folders[:] = [name for name in folders if name not in ("out", "must-fail")]
         found += [os.path.join(folder, name) for name in sorted(names) if name.endswith(endings)]
     return found
 

@@ -1,6 +1,6 @@
 #!/usr/bin/env bash
-# Compares what two libraries build, byte for byte: the one in target/staticlib, and an earlier one, which is that of a
-# commit, proved and built in a copy, or stands in a folder.
+# Compares what two libraries build, byte for byte: the one in build/lib, which `make` puts there, and an earlier one,
+# which is that of a commit that the toolchain at hand proves, built in a copy, or stands in a folder.
 #
 #   tools/compare_builds.sh COMMIT|FOLDER [COUNT]
 #
@@ -21,14 +21,14 @@ trap 'rm -rf "$room"' EXIT
 if [ -d "$1" ]; then
   earlier=$(cd "$1" && pwd)
 elif git rev-parse --verify --quiet "$1^{commit}" >"$room/commit"; then
-  echo "proving and building the library of $(git rev-parse --short "$1"): some minutes"
+  echo "proving and building the library of $(git rev-parse --short "$1"): many minutes"
   git clone --quiet --no-checkout . "$room/copy"
   git -C "$room/copy" checkout --quiet "$(cat "$room/commit")"
-  if ! (cd "$room/copy" && rt staticlib laguipy_c) >"$room/log" 2>&1; then
+  if ! (cd "$room/copy/crates/laguipy_c" && rt lib) >"$room/log" 2>&1; then
     tail -n 20 "$room/log" >&2
     exit 1
   fi
-  earlier=$room/copy/target/staticlib
+  earlier=$room/copy/crates/laguipy_c/out
 else
   echo "tools/compare_builds.sh: no commit and no folder: $1" >&2
   usage
@@ -36,12 +36,15 @@ fi
 
 # Each library with a program of its own, so that neither is linked for the other.
 built() { # NAME FOLDER
-  [ -f "$2/liblaguipy_c.a" ] || { echo "tools/compare_builds.sh: no liblaguipy_c.a in $2" >&2; exit 1; }
+  if [ ! -f "$2/liblaguipy_c.a" ] && [ ! -f "$2/liblaguipy.a" ]; then
+    echo "tools/compare_builds.sh: no liblaguipy_c.a or liblaguipy.a in $2" >&2
+    exit 1
+  fi
   LAGUIPY_LIB_DIR=$2 cargo run --release --offline --quiet --target-dir "$room/$1" \
     --manifest-path bindings/rust/Cargo.toml --example built -- --filling "$count" >"$room/$1.bytes"
 }
 built earlier "$earlier"
-built now "$PWD/target/staticlib"
+built now "$PWD/build/lib"
 if ! cmp "$room/earlier.bytes" "$room/now.bytes"; then
   echo "the libraries build different bytes" >&2
   exit 1

@@ -14,13 +14,14 @@ START, END = "<!-- layers: tools/layers.py writes them from crates.txt -->", "<!
 
 
 def parts(text):
-    """The parts of crates.txt, by their headings: of each crate what it depends on and what it has."""
+    """The parts of crates.txt, by their headings: of each crate what it depends on and what it has. A kind, as
+    `staticlib`, stands after the name."""
     found, part = [], None
     for line in text.splitlines():
         named, _, has = line.partition("#")
         name, colon, words = named.partition(":")
         if colon:
-            part[1][name.strip()] = words.split(), has.strip()
+            part[1][name.split()[0]] = words.split(), has.strip()
         elif line.startswith("# The "):
             part = line[2:].rstrip("."), {}
             found.append(part)

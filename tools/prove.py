@@ -2,16 +2,19 @@
 """Proves the programs and the library, and puts what comes of it into build/: bin, lib, and share/laguipy/proved, which
 says what was proved. Nothing is done where that file's hash of the sources, and its toolchain, are those at hand.
 
-  tools/prove.py           prove in a copy below target/, so that any rt may run in the checkout meanwhile
-  tools/prove.py --here    prove in the checkout itself, and keep what is proved there already
+  tools/prove.py           prove in a copy, so that any rt may run in the checkout meanwhile
+  tools/prove.py --here    prove in the checkout itself, over what is proved there already
 
-`./laguipy` does the first whenever it is run. One run proves and the others wait for it.
+`./laguipy` does the first whenever it is run. One run proves and the others wait for it. The copy is kept below
+laguipy/ in the user's cache folder, $XDG_CACHE_HOME or ~/.cache, so that what is unchanged is not proved again; it may
+be removed. It does not stand in the checkout, where `rt ci` refuses sources that are no crate's.
 """
 import argparse
 import contextlib
 import fcntl
 import hashlib
 import os
+import re
 import select
 import shutil
 import subprocess
@@ -20,14 +23,19 @@ import time
 
 ROOT = os.path.normpath(os.path.join(os.path.dirname(os.path.realpath(__file__)), ".."))
 BUILD = os.path.join(ROOT, "build")
-COPY = os.path.join(ROOT, "target", "laguipy")
+CACHE = os.environ.get("XDG_CACHE_HOME") or os.path.join(os.path.expanduser("~"), ".cache")
+COPY = os.path.join(CACHE, "laguipy", hashlib.sha256(os.fsencode(ROOT)).hexdigest()[:16])
 PROVED = os.path.join("share", "laguipy", "proved")
 
-WANTED = ("check_graph", "laguipy_c")
-PARTS = ("src", "specs", "proofs", "stdin", "stdout", "args", "data")
-JOBS = 4  # crates at a time; they are proved in layers, so that this keeps two cores busy
+LIBRARY, PROGRAM = "laguipy_c", "check_graph"
+WANTED = (PROGRAM, LIBRARY)
+PARTS = ("src", "specs", "proofs", "stdin", "stdout", "args", "status", "data")
+MEMORY = 3 << 30  # what a crate may take while it is proved
 SONAME = "liblaguipy.so.0"
 HEAD = "# What was proved, by which toolchain, and the files that came of it: `sha256sum -c` with this checks them.\n"
+
+
+TOLD = re.compile(r"error|: (not proved|no proof|failed)")  # among the lines of rt, those that tell why it failed
 
 
 class Failed(Exception):
@@ -48,26 +56,27 @@ def say(words):
 # ---- what there is to prove
 
 
-def dependencies():
-    """The crates of crates.txt, each with what it depends on."""
+def listed():
+    """The crates of crates.txt, each with what it depends on and its line: the name, the kind if it is said, these."""
     found = {}
     with open(os.path.join(ROOT, "crates.txt"), encoding="utf-8") as file:
         for line in file:
-            name, colon, words = line.split("#", 1)[0].partition(":")
-            if colon:
-                found[name.strip()] = words.split()
+            said, colon, words = line.split("#", 1)[0].partition(":")
+            if colon and said.split():
+                line = " ".join([" ".join(said.split()) + ":", *words.split()])
+                found[said.split()[0]] = words.split(), line
     return found
 
 
 def wanted_crates():
     """The crates behind the programs and the library, in the order in which they are proved."""
-    known, levels = dependencies(), {}
+    known, levels = listed(), {}
 
     def level(name):
         if name not in known:
             raise Failed(f"crates.txt has no {name}")
         if name not in levels:
-            own = [level(d) for d in known[name] if d in known]
+            own = [level(d) for d in known[name][0] if d in known]
             levels[name] = 1 + max(own, default=-1)
         return levels[name]
 
@@ -91,9 +100,9 @@ def crate_files(tree, crate):
 
 def digest(tree, crates):
     """A hash of all sources of these crates and of what they depend on."""
-    known, total = dependencies(), hashlib.sha256()
+    known, total = listed(), hashlib.sha256()
     for crate in crates:
-        total.update(f"{crate}: {' '.join(known[crate])}\n".encode())
+        total.update(f"{known[crate][1]}\n".encode())
         for path in crate_files(tree, crate):
             with open(os.path.join(tree, path), "rb") as file:
                 total.update(f"{path} {hashlib.sha256(file.read()).hexdigest()}\n".encode())
@@ -170,14 +179,16 @@ def copy_sources(crates):
             os.makedirs(os.path.dirname(copy), exist_ok=True)
             if not os.path.isfile(copy) or file_hash(copy) != file_hash(source):
                 shutil.copyfile(source, copy)
-    for folder, _, names in os.walk(os.path.join(COPY, "crates")):
+    for folder, below, names in os.walk(os.path.join(COPY, "crates")):
+        if os.path.dirname(folder) == os.path.join(COPY, "crates"):
+            below[:] = [name for name in below if name != "out"]  # what was proved there
         for name in names:
             path = os.path.join(folder, name)
             if os.path.relpath(path, COPY) not in wanted:
                 os.remove(path)
-    known = dependencies()
+    known = listed()
     with open(os.path.join(COPY, "crates.txt"), "w", encoding="utf-8") as file:
-        file.writelines(f"{crate}: {' '.join(known[crate])}\n" for crate in crates)
+        file.writelines(known[crate][1] + "\n" for crate in crates)
 
 
 class Progress:
@@ -185,19 +196,18 @@ class Progress:
 
     def __init__(self, crates):
         self.crates = crates
-        self.count = 0
+        self.seen = set()
         self.began = time.monotonic()
         self.live = sys.stderr is not None and sys.stderr.isatty()
 
     def line(self, text):
-        """A line that rt has printed."""
-        words = text.split()
-        if len(words) < 3 or words[0] != "rt:" or words[1] not in self.crates or words[2] != "proved":
+        """A line that rt has printed: it heads with "== NAME" what it says of a crate, once the crate is done."""
+        name = text.removeprefix("== ")
+        if name == text or name not in self.crates or name in self.seen:
             return
-        self.count += 1
-        took = "unchanged" if "unchanged" in text else " ".join(words[3:]).strip("()")
+        self.seen.add(name)
         self.clear()
-        say(f"proving {self.count} of {len(self.crates)}: {words[1]}, {took}")
+        say(f"proving {len(self.seen)} of {len(self.crates)}: {name}, after {time.monotonic() - self.began:.0f} s")
 
     def waiting(self):
         if self.live:
@@ -208,13 +218,25 @@ class Progress:
             show("\r\033[K")
 
 
-def rt(tree, words, progress=None):
-    """Runs rt, with its output in build/log, and shows progress; fails with that output."""
+def at_a_time():
+    """How many crates to prove at a time: four, or fewer on fewer processors or in less memory."""
+    with contextlib.suppress(OSError, ValueError):
+        memory = os.sysconf("SC_PAGE_SIZE") * os.sysconf("SC_PHYS_PAGES")
+        return max(1, min(4, len(os.sched_getaffinity(0)), memory // MEMORY))
+    return 1
+
+
+def out(tree, crate):
+    """The folder in which rt leaves what it makes of a crate."""
+    return os.path.join(tree, "crates", crate, "out")
+
+
+def rt(tree, crate, words, progress=None):
+    """Runs rt on a crate, with its output in build/log, and shows progress; fails with that output."""
     log = os.path.join(BUILD, "log")
-    environment = {"RT_JOBS": str(JOBS), **os.environ}
     with open(log, "w", encoding="utf-8") as kept:
-        pipes = {"stdout": subprocess.PIPE, "stderr": subprocess.STDOUT}
-        run = subprocess.Popen(["rt", *words], cwd=tree, env=environment, **pipes)
+        pipes = {"stdin": subprocess.DEVNULL, "stdout": subprocess.PIPE, "stderr": subprocess.STDOUT}
+        run = subprocess.Popen(["rt", *words], cwd=os.path.join(tree, "crates", crate), **pipes)
         try:
             for text in lines_of(run.stdout, progress):
                 kept.write(text + "\n")
@@ -230,7 +252,7 @@ def rt(tree, words, progress=None):
         progress.clear()
     if status:
         with open(log, encoding="utf-8") as kept:
-            errors = [line.rstrip() for line in kept if "error" in line or line.startswith("rt:")]
+            errors = [line.rstrip() for line in kept if line.startswith("rt:") or TOLD.search(line)]
         show("".join(f"{error}\n" for error in errors[-20:]))
         raise Failed(f"the program is not proved; {os.path.relpath(log, ROOT)} has all that the checker said")
 
@@ -257,7 +279,7 @@ def link(archive, library):
         words = [compiler, "-shared", f"-Wl,-soname,{SONAME}", "-Wl," + ",".join(whole), "-o", library]
     else:
         home = os.path.dirname(os.path.dirname(os.path.realpath(shutil.which("rt"))))
-        linker = os.path.join(home, "on", os.uname().machine, "toolchain", "bin", "ld.lld")
+        linker = os.path.join(home, "toolchain", "bin", "ld.lld")
         words = [linker, "-shared", "-soname", SONAME, *whole, "-o", library]
     try:
         run = subprocess.run(words, stdout=subprocess.PIPE, stderr=subprocess.STDOUT, check=False)
@@ -269,8 +291,8 @@ def link(archive, library):
 
 def publish(tree, crates, sources, identity):
     """Puts programs and libraries into build/, each whole or not at all, and last what was proved."""
-    static = os.path.join(tree, "target", "staticlib", "liblaguipy_c.a")
-    made = {"bin/check_graph": os.path.join(tree, "target", "bin", "check_graph"), "lib/liblaguipy.a": static}
+    static = os.path.join(out(tree, LIBRARY), f"lib{LIBRARY}.a")
+    made = {"bin/check_graph": os.path.join(out(tree, PROGRAM), PROGRAM), "lib/liblaguipy.a": static}
     shared = os.path.join(BUILD, "liblaguipy.so.new")
     link(static, shared)
     made["lib/liblaguipy.so"] = shared
@@ -301,9 +323,13 @@ def prove(crates, here):
         copy_sources(crates)
     tree = ROOT if here else COPY
     sources = digest(tree, crates)
-    rt(tree, ["check", *WANTED], Progress(crates))
-    say("compiling the library")
-    rt(tree, ["staticlib", "laguipy_c"])
+    progress = Progress(crates)
+    for crate in WANTED[::-1]:
+        rt(tree, crate, ["all", "check", "--jobs", str(at_a_time())], progress)
+    say("compiling the library and the program")
+    rt(tree, LIBRARY, ["lib"])
+    # rt builds a program where it runs it: here, where it finds no files, and says so.
+    rt(tree, PROGRAM, ["run"])
     if digest(tree, crates) != sources:
         raise Failed("the sources changed while they were proved: run it again")
     publish(tree, crates, sources, identity)

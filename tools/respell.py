@@ -3,10 +3,10 @@
 
 usage: tools/respell.py [--check] [ROOT]
 
-Run once, after the toolchain's port.py. Each name of an .antt file that begins in lower case and has a capital turns, as
-`nodeCount` to `node_count`, in .antt and .rt files, edits and documents. Names of the toolchain's library that have a
-capital behind an underscore stay, and so do names of types. It prints the names that would fall together with another one
-of the same file. --check writes nothing.
+Run once, after the toolchain's port.py. Each name of an .antt file that begins in lower case and has a capital turns,
+as `nodeCount` to `node_count`, in .antt and .rt files, edits and documents. Names of the toolchain's library that have
+a capital behind an underscore stay, and so do names of types. It prints the names that would fall together with another
+one of the same file. --check writes nothing.
 """
 import glob
 import os
@@ -37,7 +37,8 @@ def turned(word):
 
 
 def files(root):
-    for pattern in ("crates/*/specs/**/*.antt", "crates/*/proofs/**/*.antt", "crates/*/src/**/*.rt", "crates/*/must-fail/*", "edits/*/*", "docs/**/*.md", "README.md"):
+    crates = [f"crates/*/{part}" for part in ("specs/**/*.antt", "proofs/**/*.antt", "src/**/*.rt", "must-fail/*")]
+    for pattern in (*crates, "edits/*/*", "docs/**/*.md", "README.md"):
         yield from sorted(p for p in glob.glob(os.path.join(root, pattern), recursive=True) if os.path.isfile(p))
 
 
@@ -61,7 +62,12 @@ def main():
                 if table[old] in there:
                     print(f"look: {path}: {old} and {table[old]}")
         lemmas = LEMMAS if path.endswith(".antt") else {}
-        new = WORD.sub(lambda m: table.get(m.group()) or (text[m.start() - 1 : m.start()] != "." and lemmas.get(m.group())) or m.group(), text)
+
+        def new_name(m, text=text, lemmas=lemmas):
+            is_part = text[m.start() - 1 : m.start()] == "."
+            return table.get(m.group()) or (not is_part and lemmas.get(m.group())) or m.group()
+
+        new = WORD.sub(new_name, text)
         if new != text and "--check" not in sys.argv:
             with open(path, "w", encoding="utf-8") as f:
                 f.write(new)

@@ -117,7 +117,7 @@ needs_library() {
   mkdir "$room/empty"
   ends 101 cargo_with "$room/empty" bindings/rust check
   says "no liblaguipy_c.a or liblaguipy.a in $room/empty"
-  says "rt staticlib laguipy_c"
+  says "in Laguipy's repository run: make"
   says "set LAGUIPY_LIB_DIR"
   says_not panicked
 }
@@ -157,9 +157,8 @@ name_files() {
   prints "$(printf 'not up to date: bindings/rust/examples/pedal/%s.fold\n' model graph)"
 }
 
+# Into build/lib, where the crate looks for it unless it is told.
 ends 0 tools/prove.py --here
-# Where the crate looks for it unless it is told.
-[ -f target/staticlib/liblaguipy_c.a ] || ends 0 rt staticlib laguipy_c
 ends 0 cargo test --release --offline --manifest-path bindings/rust/Cargo.toml
 needs_library
 packages
@@ -170,15 +169,14 @@ ends_otherwise "$programs/check" check
 writes_answers "$programs/answers"
 writes_builds "$programs/built"
 
-ends 0 cc -std=c99 -O2 -Wall -Wextra -Werror -Iinclude examples/embed/embed.c target/staticlib/liblaguipy_c.a \
-  -o target/embed
+ends 0 cc -std=c99 -O2 -Wall -Wextra -Werror -Iinclude examples/embed/embed.c build/lib/liblaguipy.a -o build/embed
 for standard in c99 c++11; do
   ends 0 cc -x "${standard%%[0-9]*}" -std="$standard" -O2 -Wall -Wextra -Werror -Iinclude tools/test_header.c -x none \
-    -Wl,-z,lazy target/staticlib/liblaguipy_c.a -o target/test_header
-  ends 0 target/test_header examples/pedal/model.fold examples/pedal/graph.fold
+    -Wl,-z,lazy build/lib/liblaguipy.a -o build/test_header
+  ends 0 build/test_header examples/pedal/model.fold examples/pedal/graph.fold
   says_nothing
 done
-prints_expected target/embed
-ends_otherwise target/embed embed
+prints_expected build/embed
+ends_otherwise build/embed embed
 
 name_files

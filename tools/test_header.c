@@ -3,7 +3,7 @@
  * the index and the builder, with every row and the slice at exit, and how much stack each call uses, which it prints.
  * It exits with 0 if all is as the header says.
  *
- *   target/test_header examples/pedal/model.fold examples/pedal/graph.fold
+ *   build/test_header examples/pedal/model.fold examples/pedal/graph.fold
  */
 #ifndef _GNU_SOURCE
 #define _XOPEN_SOURCE 700

@@ -1,10 +1,10 @@
 #!/bin/sh
-# Runs the check program, as `rt check check_graph` has built it, on every example and on odd files. A line for each;
-# the exit status is 1 if one prints something else than it should.
+# Runs the check program, as `rt ci` or `rt run` has built it, on every example and on odd files. A line for each; the
+# exit status is 1 if one prints something else than it should.
 set -eu
 root=$(CDPATH='' cd -- "$(dirname -- "$0")/.." && pwd -P)
-program=$root/target/bin/check_graph
-[ -x "$program" ] || { echo "no target/bin/check_graph: rt check check_graph makes it" >&2; exit 2; }
+program=$root/crates/check_graph/out/check_graph
+[ -x "$program" ] || { echo "no crates/check_graph/out/check_graph: rt ci makes it" >&2; exit 2; }
 
 room=$(mktemp -d)
 trap 'chmod -R u+rw "$room"; rm -rf "$room"' EXIT

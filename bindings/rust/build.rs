@@ -1,5 +1,5 @@
 //! Links the checker, a static library: from the folder that `LAGUIPY_LIB_DIR`
-//! names, or from where `rt staticlib laguipy_c` writes it in this repository.
+//! names, or from where `make` puts it in this repository.
 
 use std::env;
 use std::path::{Path, PathBuf};
@@ -18,14 +18,14 @@ fn library_dir() -> PathBuf {
     let of_crate = PathBuf::from(env::var_os("CARGO_MANIFEST_DIR").unwrap_or_default());
     match env::var_os("LAGUIPY_LIB_DIR") {
         Some(dir) if !dir.is_empty() => of_crate.join(dir),
-        _ => of_crate.ancestors().nth(2).unwrap_or(&of_crate).join("target/staticlib"),
+        _ => of_crate.ancestors().nth(2).unwrap_or(&of_crate).join("build/lib"),
     }
 }
 
 fn say_missing(dir: &Path) {
     eprintln!("laguipy: no liblaguipy_c.a or liblaguipy.a in {}", dir.display());
     eprintln!("This crate links the checker, a static library. Do one of the two, then build again:");
-    eprintln!("- in Laguipy's repository run: rt staticlib laguipy_c");
+    eprintln!("- in Laguipy's repository run: make");
     eprintln!("- set LAGUIPY_LIB_DIR to the full path of the folder that holds one of these files;");
     eprintln!("  an installed laguipy has liblaguipy.a");
 }

@@ -5,10 +5,10 @@
  * It exits with 0 if the graph is accepted, 1 if it is refused or a file cannot be read, 2 for bad usage, 3 if its
  * output cannot be written; standard error says what is wrong with files and output.
  *
- *   rt staticlib laguipy_c
- *   cc -std=c99 -O2 -Wall -Wextra -Iinclude examples/embed/embed.c target/staticlib/liblaguipy_c.a -o target/embed
- *   target/embed examples/pedal/model.fold examples/pedal/graph.fold
- *   target/embed --version
+ *   make
+ *   cc -std=c99 -O2 -Wall -Wextra -Iinclude examples/embed/embed.c build/lib/liblaguipy.a -o build/embed
+ *   build/embed examples/pedal/model.fold examples/pedal/graph.fold
+ *   build/embed --version
  */
 #include <errno.h>
 #include <stdio.h>

@@ -1,5 +1,6 @@
 """Proving apart from running: when it is proved, by whom, and what is said; with a stand-in for the toolchain that
 counts. What stands proved in build/ serves as what it proves."""
+import glob
 import os
 import shutil
 import signal
@@ -17,15 +18,16 @@ STAND_IN = """\
 # Prints what rt prints, and puts in place what is proved already.
 case $1 in
 version) cat "$IDENTITY" ;;
-check)
-    echo "$PWD" >>"$COUNTER"
-    for crate in folder laguipy_c check_graph; do sleep 0.2; echo "rt: $crate proved (1 s)"; done
-    if [ -f "$BREAK" ]; then echo "crates/folder: error: not so"; echo "rt: FAILED: folder"; exit 1; fi
-    mkdir -p target/bin && cp "$BUILT/bin/check_graph" target/bin/ ;;
-staticlib) mkdir -p target/staticlib && cp "$BUILT/lib/liblaguipy.a" target/staticlib/liblaguipy_c.a ;;
+all)
+    crate=${PWD##*/}
+    [ "$crate" = check_graph ] || echo "$PWD" >>"$COUNTER"
+    for one in folder "$crate"; do sleep 0.2; echo "== $one"; echo "fn $one::f: proved"; done
+    if [ -f "$BREAK" ]; then echo "error: not so"; echo "== summary"; echo "folder: failed (1)"; exit 1; fi ;;
+lib) mkdir -p out && cp "$BUILT/lib/liblaguipy.a" out/liblaguipy_c.a ;;
+run) mkdir -p out && cp "$BUILT/bin/check_graph" out/ && echo "no file" ;;
 esac
 """
-CRATES = "folder:\nlaguipy_c: folder\ncheck_graph: folder io\nother:\n"
+CRATES = "folder:\nlaguipy_c staticlib: folder\ncheck_graph: folder\nother:\n"
 
 
 class Checkout(unittest.TestCase):
@@ -60,6 +62,7 @@ class Checkout(unittest.TestCase):
             "IDENTITY": os.path.join(self.room, "identity"),
             "BREAK": os.path.join(self.room, "break"),
             "BUILT": os.path.join(ROOT, "build"),
+            "XDG_CACHE_HOME": os.path.join(self.room, "cache"),
         }
 
     def start(self, *words, toolchain=True):
@@ -72,6 +75,10 @@ class Checkout(unittest.TestCase):
         out, said = running.communicate()
         return running.returncode, out, said.decode()
 
+    def copies(self, path):
+        """The files of a path in the copies that were proved."""
+        return glob.glob(os.path.join(self.room, "cache", "laguipy", "*", path))
+
     def proofs(self):
         return len(read(self.counter).splitlines()) if os.path.exists(self.counter) else 0
 
@@ -81,7 +88,7 @@ class Checkout(unittest.TestCase):
     def test_once(self):
         came = self.run_pedal()
         self.assert_report(came)
-        crates = ("proving 1 of 3: folder, 1 s", "proving 3 of 3: check_graph, 1 s")
+        crates = ("proving 1 of 3: folder, after ", "proving 3 of 3: check_graph, after ")
         for line in ("takes some minutes", *crates, "laguipy: proved"):
             self.assertIn(line, came[2])
         again = self.run_pedal()
@@ -102,17 +109,19 @@ class Checkout(unittest.TestCase):
         changes = (
             ("checkout/crates/folder/src/lib.rt", "// another\n"),
             ("checkout/crates/folder/proofs/Law.antt", "-- a law\n"),
-            ("checkout/crates.txt", CRATES.replace("check_graph: folder io", "check_graph: folder io os")),
+            ("checkout/crates.txt", CRATES.replace("check_graph: folder", "check_graph: folder other")),
             ("identity", "kit 2\n"),
         )
         for count, (path, text) in enumerate(changes, 2):
             self.write(path, text)
             self.assert_report(self.run_pedal())
             self.assertEqual(self.proofs(), count, path)
+        self.assertEqual(len(self.copies("crates/folder/proofs/Law.antt")), 1)
         os.remove(os.path.join(self.root, "crates/folder/proofs/Law.antt"))
         self.assert_report(self.run_pedal())
         self.assertEqual(self.proofs(), 6)
-        self.assertFalse(os.path.exists(os.path.join(self.root, "target/laguipy/crates/folder/proofs/Law.antt")))
+        self.assertEqual(self.copies("crates/folder/proofs/Law.antt"), [])
+        self.assertEqual(len(self.copies("crates/check_graph/out/check_graph")), 1)
 
     def test_not_again_for_what_it_does_not_use(self):
         self.assert_report(self.run_pedal())
@@ -169,7 +178,7 @@ class Checkout(unittest.TestCase):
         self.assertEqual((running.returncode, out), (130, b""))
         self.assertNotIn(b"Traceback", said)
         time.sleep(1)
-        self.assertFalse(os.path.exists(os.path.join(self.root, "target/laguipy/target/bin/check_graph")))
+        self.assertEqual(self.copies("crates/check_graph/out/check_graph"), [])
         self.assert_report(self.run_pedal())
 
     def test_a_stamp_that_is_no_text(self):

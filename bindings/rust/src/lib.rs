@@ -18,11 +18,11 @@
 //! # Linking
 //!
 //! The static library is for x86-64, and has to be there before this crate is
-//! built. `rt staticlib laguipy_c` in Laguipy's repository writes it to
-//! `target/staticlib/liblaguipy_c.a`, where it is found while the crate stands in
-//! the repository. From anywhere else, or for an installed Laguipy, set
-//! `LAGUIPY_LIB_DIR` to the full path of the folder that holds `liblaguipy_c.a` or
-//! `liblaguipy.a`, the name under which it is installed:
+//! built. `make` in Laguipy's repository puts it at `build/lib/liblaguipy.a`, where
+//! it is found while the crate stands in the repository. From anywhere else, or for
+//! an installed Laguipy, set `LAGUIPY_LIB_DIR` to the full path of the folder that
+//! holds `liblaguipy.a`, the name under which it is installed, or `liblaguipy_c.a`,
+//! as `rt lib` names it:
 //!
 //! ```text
 //! LAGUIPY_LIB_DIR=/usr/local/lib cargo build

@@ -1,4 +1,7 @@
 // Document 02, 2.5: a graph built in a lent slice. Row 35; then the moves, the edges, the contents, and the values.
+
+#![tactic(auto)]
+
 ghost use Rattle.std.specs.Prelude.{◌≡◌, List, ◌++◌, ℕ, ◌+◌, ◌*◌, ◌<◌, ◌≤◌, length, get_or, drop};
 ghost use Rattle.folder.specs.Fields.{field4_limit};
 ghost use Rattle.folder.specs.Table.{outcome};

@@ -1,5 +1,8 @@
 // Document 02, 2.6: where each node's edges begin, while a graph is built. A row has it for each node, in bytes from the first
 // edge on; a node that has no edges has it where they would begin.
+
+#![tactic(auto)]
+
 ghost use Rattle.std.specs.Prelude.{◌≡◌, ℕ, ◌+◌, ◌<◌, ◌≤◌, length, get_or};
 ghost use Rattle.folder.specs.Fields.{field4_limit};
 ghost use Rattle.folder.specs.Tab.{tab};

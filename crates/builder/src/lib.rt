@@ -1,4 +1,7 @@
 // Document 02, 2.5: the moves made, one after the other, until there is none.
+
+#![tactic(auto)]
+
 ghost use Rattle.std.specs.Prelude.{◌≡◌, ◌+◌, ◌*◌, ◌≤◌, length};
 ghost use Rattle.model.specs.Layout.{variable_count};
 ghost use Rattle.model.specs.Model.{model_of};

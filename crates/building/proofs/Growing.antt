@@ -1,9 +1,9 @@
 -- A label that grows: what reads known stays known, and it contains fewer states.
 -- Assumes nothing.
-use Prim.Native.Nat.{ℕ, zero, suc, ◌^◌, ◌<◌}
-use mathlib.Core.Path.{◌≡◌, refl, sym, ap, ◌∙◌, subst}
-use mathlib.Core.Bool.{Bool, true, false, false≢true}
-use mathlib.Core.Option.{Option, none, some}
+use Prim.Native.Nat.{ℕ, ◌^◌, ◌<◌}
+use mathlib.Core.Path.{◌≡◌, refl, sym, ap, ◌∙◌}
+use mathlib.Core.Bool.{Bool, true, false}
+use mathlib.Core.Option.{none}
 use native.Mathlib.Decide.{ℕ_discrete}
 use lib.IntN.{ℤ}
 use Rattle.folder.specs.Pick.{implies}
@@ -14,15 +14,13 @@ use Rattle.whole.specs.Order.{eq_z}
 use Rattle.expressions.specs.Meaning.{State, value_of, number_in, truth_in}
 use Rattle.expressions.specs.Reading.{has_bit, known_truth}
 use Rattle.expressions.specs.Mentions.{carry_n, carry_t}
-use Rattle.expressions.specs.States.{number_read, truth_read, lacked_by}
 use Rattle.expressions.specs.declared.Number.{Number}
 use Rattle.expressions.specs.declared.Number.TheVariants.{Known}
 use Rattle.expressions.specs.declared.Truth.{Truth}
 use Rattle.expressions.proofs.Relabel.{number-grows, truth-grows}
 use Rattle.model.specs.Model.{Model, bound}
 use Rattle.model.specs.Chances.{InRange}
-use Rattle.building.specs.First.{put, first}
-use Rattle.building.specs.Building.{Building, agrees, label_at}
+use Rattle.building.specs.Building.{Building, agrees}
 use Rattle.building.specs.Moves.{tracking, wanted_t, wanted_n, truth_wants, number_wants, guards_want}
 use Rattle.building.proofs.FirstLaws.{put-at, put_other, first-none, first-nowhere}
 use Rattle.building.proofs.ReadLaws.{proper-by, truth-none, number-none}

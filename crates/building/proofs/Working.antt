@@ -4,7 +4,7 @@ use Prim.Native.Nat.{ℕ, ◌+◌, ◌-◌, ◌^◌, ◌<◌, ◌≤◌}
 use mathlib.Core.Path.{◌≡◌, refl, sym, ap, ◌∙◌, subst}
 use mathlib.Core.Logic.{◌⊎◌, inl, inr, ⊎_elim}
 use mathlib.Core.Bool.{Bool, true, false, false≢true, ◌&&◌}
-use mathlib.Core.Option.{Option, none, some}
+use mathlib.Core.Option.{none}
 use mathlib.Core.List.{[]}
 use native.Mathlib.Decide.{dec_lt, ℕ_discrete}
 use native.Mathlib.Omega.{arith}
@@ -20,7 +20,7 @@ use Rattle.building.specs.Moves.{Move, Limit, tracking, becoming, expanding, app
 use Rattle.building.specs.Kept.{Kept, Mended}
 use Rattle.building.specs.Near.{Clear, OutOfReach}
 use Rattle.building.specs.Working.{ReadRight, ParentRight, Settled, HintRight, ReachRight, MarkRight, NextRight}
-use Rattle.building.proofs.FirstLaws.{put_same, put-at, put_other, put_all, grown-old, grown-new, orelse-none, onward-none}
+use Rattle.building.proofs.FirstLaws.{put-at, put_other, put_all, grown-old, grown-new, orelse-none, onward-none}
 use Rattle.building.proofs.OffspringLaws.{before-within}
 use Rattle.building.proofs.Keeping.{is_waiting}
 use Rattle.building.proofs.Nearness.{out-of-reach, new-wants-none}

@@ -1,12 +1,18 @@
 // The check program: reads model.fold and graph.fold, and prints the report. Which bytes are read and written no
 // contract can say; that of `text_of` says which text comes of what was read.
+
+#![tactic(auto)]
+
 ghost use Rattle.std.specs.Prelude.{◌≤◌, length};
 ghost use Rattle.text.specs.Text.{Holds};
 ghost use Rattle.check_graph.specs.Printed.{Within, file_text, printed};
 ghost use Rattle.report.specs.Report.{report_text};
 
-use libc::STDOUT_FILENO;
 use report::TEXT_ROOM;
+use std::fs::File;
+use std::io;
+use std::io::Read;
+use std::rt::Files;
 
 // Bytes that are taken of a file.
 const MOST: usize = 65536;
@@ -21,23 +27,21 @@ enum Reading {
 }
 
 // One read into buf from `at` on; 0 bytes where the file ends.
-fn read_some(fd: i32, buf: &mut [u8], at: usize) -> Reading
+fn read_some(file: &mut impl Read, buf: &mut [u8], at: usize) -> Reading
     requires { at ≤ length buf.old }
     ensures { Within result at buf.old }
 {
-    let rest = &mut buf[at..];
-    let got = libc::read(fd, rest);
-    if got < 0 {
-        return Reading::Failed;
+    match file.read(&mut buf[at..]) {
+        Ok(n) => Reading::Bytes(n),
+        Err(_) => Reading::Failed,
     }
-    Reading::Bytes(io::count(got, rest))
 }
 
 // Reads until the file ends or the buffer is full: a read may give less than there is.
-fn read_all(fd: i32, buf: &mut [u8; ROOM]) -> Reading {
+fn read_all(file: &mut impl Read, buf: &mut [u8; ROOM]) -> Reading {
     let mut at = 0;
     while at < ROOM {
-        let got = read_some(fd, buf, at);
+        let got = read_some(file, buf, at);
         match got {
             Reading::Failed => {
                 return Reading::Failed;
@@ -54,14 +58,11 @@ fn read_all(fd: i32, buf: &mut [u8; ROOM]) -> Reading {
 }
 
 // A folder in place of a file may be opened, and then cannot be read.
-fn read_file(name: &[u8], buf: &mut [u8; ROOM]) -> Reading {
-    let fd = os::open_read(name);
-    if fd < 0 {
-        return Reading::Failed;
+fn read_file(rt: &impl Files, name: &str, buf: &mut [u8; ROOM]) -> Reading {
+    match File::open(rt, name) {
+        Ok(mut file) => read_all(&mut file, buf),
+        Err(_) => Reading::Failed,
     }
-    let r = read_all(fd, buf);
-    libc::close(fd);
-    r
 }
 
 // The text for a model of these bytes, at the start of `out`; where it ends.
@@ -104,12 +105,12 @@ fn text_of(
     }
 }
 
-fn main() {
+fn main(rt: HostRuntime) -> io::Result<()> {
     let mut model = [0u8; ROOM];
     let mut graph = [0u8; ROOM];
     let mut out = [0u8; TEXT_ROOM];
-    let m = read_file(b"model.fold", &mut model);
-    let g = read_file(b"graph.fold", &mut graph);
+    let m = read_file(&rt, "model.fold", &mut model);
+    let g = read_file(&rt, "graph.fold", &mut graph);
     let n = text_of(m, &model, g, &graph, &mut out);
-    io::write_all(STDOUT_FILENO, &out[..n]);
+    rt.write_all(&out[..n])
 }

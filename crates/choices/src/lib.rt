@@ -1,5 +1,8 @@
 // The combinations of the values that untracked variables can take (document 02, 2.4): how many there are, and one after
 // the other, in a row with a value for each variable.
+
+#![tactic(auto)]
+
 ghost use Rattle.std.specs.Prelude.{◌≡◌, List, ℕ, suc, ◌<◌, ◌≤◌, length, ℤ, ◌≤ℤ◌};
 ghost use Rattle.std.specs.Int.Signed.{mag};
 ghost use Rattle.folder.specs.Fields.{field_limit};

@@ -1,6 +1,8 @@
 // Arithmetic and reading for the tests, which nothing can break: sums, products and differences stop at the ends of 64
 // bits, and past the end of a slice a byte is 0.
 
+#![tactic(auto)]
+
 // What a field of 2 bytes stays below, and half of it, from where on a signed one is negative.
 pub const FIELD_LIMIT: usize = 65536;
 

@@ -1,4 +1,7 @@
 // Covers, while a graph is built: which node can cover which, which waits, and hints that spare looking at all of them.
+
+#![tactic(auto)]
+
 ghost use Rattle.std.specs.Prelude.{◌≡◌, true, false, not, ℕ, ◌+◌, ◌*◌, ◌<◌, ◌≤◌, length};
 ghost use Rattle.folder.specs.Scan.{first_bad};
 ghost use Rattle.folder.specs.Fields.{field_limit, signed16};

@@ -1,4 +1,7 @@
 // Row 5 of document 01's table: every entry keeps the rules of its operation, and none is too deep.
+
+#![tactic(auto)]
+
 ghost use Rattle.std.specs.Prelude.{◌≡◌, ◌<◌, ◌≤◌, max, get_or};
 ghost use Rattle.folder.specs.Fields.{field_limit};
 ghost use Rattle.folder.specs.Scan.{first_bad};

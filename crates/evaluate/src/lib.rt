@@ -1,4 +1,7 @@
 // Evaluators of numbers and of truths: what an entry reads as in a label, and what it is in a state.
+
+#![tactic(auto)]
+
 ghost use Rattle.std.specs.Prelude.{◌≡◌, ◌≤◌, get_or, length, pos};
 ghost use Rattle.std.specs.Int.Signed.{mag};
 ghost use Rattle.folder.specs.Fields.{field_limit};

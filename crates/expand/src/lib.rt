@@ -1,6 +1,9 @@
 // The rules of a node that read expressions: A2, B1 and B2, rows 19 to 21 of the table. What entries are in its concrete
 // state stands in `state`, and `known` flags those that read known in its label, three ways at first; what a rule asks and
 // does not find flagged is read by all states then. A known entry is in every state of the label what it is in this one.
+
+#![tactic(auto)]
+
 ghost use Rattle.std.specs.Prelude.{◌≡◌, true, false, not, ◌+◌, ◌*◌, ◌<◌, ◌≤◌, ◌^◌, length, get_or, pos};
 ghost use Rattle.folder.specs.Fields.{field_limit, u16, signed16};
 ghost use Rattle.folder.specs.Contents.{field};

@@ -1,7 +1,7 @@
 -- Numbers by digits of mixed radix: every choice of digits is some number below the product of the radices.
 -- Assumes nothing.
 use Prim.Native.Nat.{ℕ, zero, suc, ◌+◌, ◌*◌, ◌%◌, ◌-◌, ◌≤◌, ◌<◌}
-use mathlib.Core.Path.{◌≡◌, refl}
+use mathlib.Core.Path.{◌≡◌, refl, ap, ◌∙◌}
 use native.Mathlib.Nat.{add-zero, zero-add, mul-one, mul_assoc, mul-le-mul_left, mul-le-mul, add-mul-div_left, div-eq_of_lt, add-mul-mod_self_left, mod-eq_of_lt, le_refl, le_trans, mul-suc}
 use native.Mathlib.Omega.{arith}
 use Rattle.expressions.specs.Combinations.{product_of, left_of}
@@ -23,7 +23,8 @@ module _ (f : ℕ → ℕ) (some : (v : ℕ) → 0 < f v) where
     left-numbered zero k = rw (add-zero k) refl
     left-numbered (suc v) k =
         let e : k + suc v ≡ suc k + v = omega arith in
-        rw (e, left-numbered v (suc k), add-mul-div_left (d v) (numbered k (suc v)) {y = f v} (some v), div-eq_of_lt (below v)) (omega arith)
+        let s : left_of f (numbered (k + suc v) 0) v ≡ numbered (suc k) v = ap (λ (n : ℕ). left_of f (numbered n 0) v) e ∙ left-numbered v (suc k) in
+        rw (s, add-mul-div_left (d v) (numbered k (suc v)) {y = f v} (some v), div-eq_of_lt (below v)) (omega arith)
 
     pub digit-is : (n v : ℕ) → v < n → left_of f (numbered n 0) v % f v ≡ d v
     unfolding numbered

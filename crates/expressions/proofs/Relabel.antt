@@ -1,7 +1,7 @@
 -- Labels that say the same of the tracked variables read alike; and what reads known stays known, with its value, when a
 -- label tracks more.
 -- Assumes nothing.
-use Prim.Native.Nat.{ℕ, zero, suc, ◌+◌, ◌*◌, ◌<◌, ◌≤◌}
+use Prim.Native.Nat.{ℕ, zero, suc, ◌<◌, ◌≤◌}
 use mathlib.Core.Path.{◌≡◌, refl, sym, ap, ◌∙◌}
 use mathlib.Core.Bool.{Bool, true, false, not, ◌&&◌, false≢true}
 use mathlib.Core.List.{List}
@@ -18,10 +18,9 @@ use Rattle.folder.specs.Tab.{tab}
 use Rattle.whole.specs.Order.{eq_z}
 use Rattle.expressions.specs.Limits.{most_combinations}
 use Rattle.expressions.specs.Entries.{Entries}
-use Rattle.expressions.specs.Operations.{arith_z, relates}
 use Rattle.expressions.specs.Meaning.{State, number_in, truth_in}
 use Rattle.expressions.specs.Reading.{known_truth, arith_n, chosen, choose_n, compare_n, not_t, and_t, or_t, join_t, has_bit, look_in, reading, read_number, read_truth}
-use Rattle.expressions.specs.Mentions.{is_free, mentions}
+use Rattle.expressions.specs.Mentions.{mentions}
 use Rattle.expressions.specs.Combinations.{Label, Holds, Proper, product_of, choices, width_of, combinations, digit, value_in, combination}
 use Rattle.expressions.specs.States.{ways, same_truth, number_by_all, truth_by_all, number_three, truth_three, number_read, truth_read}
 use Rattle.expressions.specs.declared.Range.{Range}

@@ -1,4 +1,7 @@
 // Expressions: what an entry is, and what can be said of it.
+
+#![tactic(auto)]
+
 ghost use Rattle.std.specs.Prelude.{◌≡◌, ◌<◌, ◌≤◌};
 ghost use Rattle.folder.specs.Fields.{field_limit};
 ghost use Rattle.expressions.specs.Entries.{entries_of, number_form_of, truth_form_of, number_form, truth_form, is_number, is_truth};

@@ -1,5 +1,8 @@
 // The figure call over a model and a graph that the checks accept: rows 26 to 28 of the table, the figures written into
 // two rows that the caller lends, and the part of a row that holds them.
+
+#![tactic(auto)]
+
 ghost use Rattle.std.specs.Prelude.{◌≡◌, not, List, ℕ, length};
 ghost use Rattle.folder.specs.Pick.{pick};
 ghost use Rattle.folder.specs.Scan.{first_bad};

@@ -1,5 +1,8 @@
 // Document 02, 2.5: a graph that is built, made whole: its edges are written after its nodes, and each node's record gets its
 // final fields, with the value S.
+
+#![tactic(auto)]
+
 ghost use Rattle.std.specs.Prelude.{◌≡◌, [], ◌∷◌, ◌+◌, ◌*◌, ◌<◌, ◌≤◌, length};
 ghost use Rattle.mdp.specs.Kinds.{Kind};
 ghost use Rattle.folder.specs.Fields.{field_limit};

@@ -196,6 +196,7 @@ pub data Gives (P : Refusal → Type 0) : List Row → Type 0 where
   each : {r : Row} {rs : List Row} → ((p : ℕ) → r.ok p ≡ false → P (r.gives p)) → Gives P rs → Gives P (r ∷ rs)
 
 pub given : {P : Refusal → Type 0} {rs : List Row} {f : Refusal} → Gives P rs → Broken rs f → P f
+given Gives.over b = elim b [ ]
 given {P} (Gives.each h t) (Broken.here b) = subst P b.gives (h b.at b.broken)
 given (Gives.each h t) (Broken.later k b) = given t b
 
@@ -204,6 +205,7 @@ pub data RulesGive (P : Cause → Type 0) : List Rule → Type 0 where
   each-rule : {r : Rule} {rs : List Rule} → (r.holds ≡ false → P (cause r.number r.second)) → RulesGive P rs → RulesGive P (r ∷ rs)
 
 pub rule-given : {P : Cause → Type 0} {rs : List Rule} {c : Cause} → RulesGive P rs → BrokenRule rs c → P c
+rule-given RulesGive.rules-end b = elim b [ ]
 rule-given (RulesGive.each-rule h t) (BrokenRule.here e) = h e
 rule-given (RulesGive.each-rule h t) (BrokenRule.later k b) = rule-given t b
 

@@ -1,4 +1,7 @@
 // Folders: little-endian fields, the table of contents, bodies and records. Reads are total: past the end a byte is 0.
+
+#![tactic(auto)]
+
 ghost use Rattle.std.specs.Prelude.{◌≡◌, ◌+◌, ◌*◌, ◌<◌, ◌≤◌, ◌^◌, get_or, length};
 ghost use Rattle.folder.specs.Fields.{field_limit, field4_limit, u16, u32, signed16};
 ghost use Rattle.folder.specs.Contents.{start_of, length_of, due_start, entry_ok, body, count_of, field, field4};

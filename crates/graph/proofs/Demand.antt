@@ -23,7 +23,7 @@ use Rattle.graph.specs.Figures.{figures, figure_outcome, figure_part}
 use Rattle.graph.specs.Valid.{Valid}
 use Rattle.graph.specs.Demand.{Bounds, PartFits, Demand}
 use Rattle.graph.specs.declared.Summary.{Summary}
-use Rattle.graph.specs.declared.GraphAnswer.TheVariants.{Accepted, Refused}
+use Rattle.graph.specs.declared.GraphAnswer.TheVariants.{Accepted}
 use Rattle.graph.proofs.CountLaws.{none-of-kind}
 use Rattle.graph.proofs.Decided.{accepted-valid, figure-valid}
 use Rattle.graph.proofs.Labelled.{kind-is, labelled, valued, own, root-contains}

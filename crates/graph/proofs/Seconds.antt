@@ -3,7 +3,7 @@
 -- Assumes nothing.
 use Prim.Native.Nat.{ℕ, ◌<◌, ◌≤◌}
 use mathlib.Core.Path.{◌≡◌, refl, sym, ap, ◌∙◌, subst}
-use mathlib.Core.Logic.{◌⊎◌, ⊎_elim, ◌≢◌}
+use mathlib.Core.Logic.{⊎_elim, ◌≢◌}
 use mathlib.Core.Bool.{Bool, true, false, false≢true}
 use mathlib.Core.List.{List, [], ◌∷◌}
 use native.Mathlib.Decide.{dec_lt}
@@ -121,6 +121,7 @@ module _ (M : Model) (G : Simulation) (n : ℕ) where
 -- A table of one row is broken in it.
 last-broken : {r : Row} {f : Refusal} → Broken (r ∷ []) f → BrokenAt r f
 last-broken (Broken.here b) = b
+last-broken {r = r} {f = f} (Broken.later _ x8) = elim x8 [ ]
 
 module _ (M : Model) (G : Simulation) where
   -- A row of another number gives no second place.

@@ -1,6 +1,9 @@
 // The first rows of the graph check, 12 to 17, over a model folder that the model check accepts. A body is a slice of
 // its own: vs and cs are the model's variables and commands, ns and es the graph's nodes and edges. A contract over
 // bodies holds of whichever folders have them.
+
+#![tactic(auto)]
+
 ghost use Rattle.std.specs.Prelude.{◌≡◌, true, List, ℕ, ◌+◌, ◌<◌, ◌≤◌, ◌^◌, length, drop};
 ghost use Rattle.folder.specs.Fields.{field_limit};
 ghost use Rattle.folder.specs.Pick.{implies};

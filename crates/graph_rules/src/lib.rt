@@ -1,5 +1,8 @@
 // The graph check of an accepted model: rows 18 to 25 after rows 12 to 17, the rules of each node finished before the
 // next one's; and what an accepted graph has.
+
+#![tactic(auto)]
+
 ghost use Rattle.std.specs.Prelude.{◌≡◌, true, ◌+◌, ◌≤◌};
 ghost use Rattle.folder.specs.Table.{cause, first_broken, outcome};
 ghost use Rattle.model.specs.Model.{model_of};

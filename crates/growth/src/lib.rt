@@ -1,4 +1,7 @@
 // Document 02, 2.5: the next move.
+
+#![tactic(auto)]
+
 ghost use Rattle.std.specs.Prelude.{◌≡◌, ◌<◌, ◌≤◌, length};
 ghost use Rattle.model.specs.Model.{model_of};
 ghost use Rattle.graph.specs.Limits.{most_nodes};

@@ -1,4 +1,7 @@
 // The FNV-1a hash of a state's bytes.
+
+#![tactic(auto)]
+
 ghost use Rattle.std.specs.Prelude.{◌≡◌, ◌/◌, ◌%◌, ◌<◌};
 ghost use Rattle.folder.specs.Fields.{field_limit};
 ghost use Rattle.hash.specs.Hash.{mul_kept, fnv_step, bits, hash_of};

@@ -12,7 +12,7 @@ use lib.IntN.{ℤ}
 use Rattle.folder.specs.Pick.{pick}
 use Rattle.folder.specs.Contents.{field}
 use Rattle.graph.specs.Simulation.{node_size}
-use Rattle.slots.specs.Slots.{no_node, lowest}
+use Rattle.slots.specs.Slots.{no_node}
 use Rattle.slots.specs.Nodes.{label_in, stop_in}
 use Rattle.slots.proofs.Probing.{finds}
 use Rattle.index.specs.Twins.{state_at}

@@ -5,9 +5,9 @@ use Rattle.folder.specs.Contents.{count_of, field}
 use Rattle.model.specs.Limits.{most_variables}
 use Rattle.graph.specs.Limits.{most_nodes}
 use Rattle.graph.specs.Simulation.{node_size}
-use Rattle.slots.specs.Slots.{no_node, is_new, slots_after, lowest}
+use Rattle.slots.specs.Slots.{is_new, slots_after, lowest}
 use Rattle.slots.specs.Nodes.{label_in, Hashed}
-use Rattle.index.specs.Twins.{unseen, is_listed, twins, state_at}
+use Rattle.index.specs.Twins.{unseen, is_listed, twins}
 
 module _ (vars : ℕ) (nb : List ℕ) where
   abbrev pub nodes_in : ℕ

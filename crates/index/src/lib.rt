@@ -1,5 +1,8 @@
 // The index call over a model and a graph that the checks accept: row 34 of the table, the slots, the answers to a batch
 // of states, and the listing of uncovered nodes that share a concrete label.
+
+#![tactic(auto)]
+
 ghost use Rattle.std.specs.Prelude.{◌≡◌, List, ℕ, ◌+◌, ◌*◌, ◌/◌, ◌<◌, ◌≤◌, length, set, ℤ};
 ghost use Rattle.folder.specs.Pick.{pick};
 ghost use Rattle.folder.specs.Tab.{fill};

@@ -1,4 +1,7 @@
 // The rules of one node of a graph that need no reading: A1, C3, C1, C2 and the value rule.
+
+#![tactic(auto)]
+
 ghost use Rattle.std.specs.Prelude.{◌≡◌, ◌+◌, ◌*◌, ◌<◌, ◌≤◌, get_or, length};
 ghost use Rattle.folder.specs.Contents.{count_of, field, field4};
 ghost use Rattle.folder.specs.Fields.{field_limit, field4_limit, signed16};

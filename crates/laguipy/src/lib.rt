@@ -1,6 +1,9 @@
 // Laguipy: machine-checked answers about probabilistic systems. The calls of document 01 on two folders' bytes. None asks
 // anything of its arguments; each contract gives the answer and every row's content as equal to a definition, and
 // graph/proofs/Demand.antt says what an accepted graph gives.
+
+#![tactic(auto)]
+
 ghost use Rattle.std.specs.Prelude.{◌≡◌, ◌+◌};
 ghost use Rattle.folder.specs.Pick.{pick};
 ghost use Rattle.model.specs.Table.{model_outcome};

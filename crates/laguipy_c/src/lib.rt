@@ -1,6 +1,9 @@
 // The calls of `laguipy` for C and for Rust, in a static library; include/laguipy.h declares them. A slice crosses as
 // pointer and length. An enum or a part of a slice does not: each call returns the number of its answer, 0 for
 // acceptance, and writes what comes with it into numbers that the caller lends, which are written on every call.
+
+#![tactic(auto)]
+
 ghost use Rattle.std.specs.Prelude.{◌≡◌, ◌<◌};
 ghost use Rattle.folder.specs.Pick.{pick};
 ghost use Rattle.folder.specs.Table.{outcome_number, outcome_places, outcome};

@@ -1,10 +1,14 @@
 // The index call's answer and its rows against a search that goes through the nodes. Safe and ending on any arguments;
 // its contracts say no more.
+
+#![tactic(auto)]
+
 use clamped::{add, mul, sub};
 use folder::{Outcome, Refusal};
 use graph::{MOST_NODES, SLOTS};
 use index::IndexAnswer;
 use solver::{MOST_VARIABLES, ZERO, concrete, first_like, first_values, small};
+use std::io;
 use tally::{TALLY, hold, judge};
 
 // What every row holds before the call.
@@ -196,7 +200,14 @@ fn states(m: &[u8], a: &[usize; 32]) -> usize {
 }
 
 // The index call on rows of these lengths and this batch. Refused, all rows stay.
-pub fn index_case(t: &mut [usize; TALLY], m: &[u8], g: &[u8], a: &[usize; 32], due: Refusal) {
+pub fn index_case(
+    rt: &impl Print,
+    t: &mut [usize; TALLY],
+    m: &[u8],
+    g: &[u8],
+    a: &[usize; 32],
+    due: Refusal,
+) -> io::Result<()> {
     let mut slots = [BEFORE; SLOTS + 1];
     let mut answers = [BEFORE; MOST_NUMBERS];
     let mut listing = [BEFORE; MOST_NODES + 1];
@@ -209,7 +220,7 @@ pub fn index_case(t: &mut [usize; TALLY], m: &[u8], g: &[u8], a: &[usize; 32], d
         front(&mut answers, a[1]),
         front(&mut listing, a[2]),
     );
-    judge(t, outcome_of(r), due);
+    judge(rt, t, outcome_of(r), due)?;
     let right = if due.number == 0 {
         slots_right(m, g, &slots)
             & answers_right(m, g, a, states(m, a), &answers)
@@ -217,14 +228,20 @@ pub fn index_case(t: &mut [usize; TALLY], m: &[u8], g: &[u8], a: &[usize; 32], d
     } else {
         kept_from(&slots, 0) & kept_from(&answers, 0) & kept_from(&listing, 0)
     };
-    hold(t, right, listed(r), 0);
+    hold(rt, t, right, listed(r), 0)
 }
 
 // The same with rows that fit and no batch, due to answer as the graph check does.
-pub fn index_as(t: &mut [usize; TALLY], m: &[u8], g: &[u8], due: Refusal) {
+pub fn index_as(
+    rt: &impl Print,
+    t: &mut [usize; TALLY],
+    m: &[u8],
+    g: &[u8],
+    due: Refusal,
+) -> io::Result<()> {
     let mut a = [0; 32];
     a[0] = SLOTS;
     a[2] = MOST_NODES;
     a[MOST_NUMBERS] = ROWS;
-    index_case(t, m, g, &a, due);
+    index_case(rt, t, m, g, &a, due)
 }

@@ -1,4 +1,7 @@
 // Document 02, 2.5: the values of a graph: S everywhere, then rounds over the nodes, upward and in place.
+
+#![tactic(auto)]
+
 ghost use Rattle.std.specs.Prelude.{◌≡◌, ◌&&◌, ◌*◌, ◌<◌, ◌≤◌, eqb, length};
 ghost use Rattle.mdp.specs.Sums.{rounded_up};
 ghost use Rattle.folder.specs.Fields.{field_limit};

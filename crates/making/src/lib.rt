@@ -1,4 +1,7 @@
 // Document 02, 2.5 and 2.6: a move made in the records, with the marks, hints, reaches and counts that go with it.
+
+#![tactic(auto)]
+
 ghost use Rattle.std.specs.Prelude.{◌≡◌, true, ◌+◌, ◌-◌, ◌<◌, ◌≤◌, max, length, set};
 ghost use Rattle.std.proofs.Math.Option.{some};
 ghost use Rattle.folder.specs.Fields.{field_limit};

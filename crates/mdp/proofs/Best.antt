@@ -5,7 +5,8 @@ use native.Mathlib.Nat.{le_refl, le_trans, pow-suc, pow-zero}
 use native.Mathlib.Omega.{arith}
 use mathlib.Core.Path.{◌≡◌, refl, sym, ap, ◌∙◌, subst}
 use mathlib.Core.Bool.{Bool, true, false}
-use Rattle.mdp.specs.Sums.{sum, greatest, if◌then◌else◌}
+use Rattle.mdp.specs.Sums.{sum, greatest}
+use Rattle.std.specs.Prelude.{if◌then◌else◌}
 use Rattle.mdp.specs.Mdp.{Mdp, Fair, P, Q, weighing, worth, Enabled, History, alone, step, Choice, stop, take, Strategy}
 use Rattle.mdp.proofs.SumLaws.{weighed, greatest-above, greatest-below, Attained, nowhere, at, attained}
 

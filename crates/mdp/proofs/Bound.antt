@@ -1,11 +1,11 @@
 -- Whatever a graph's nodes hold from round to round, if it obeys the value rule from each round to the next then it bounds P.
 -- Assumes nothing.
-use Prim.Native.Nat.{ℕ, zero, suc, ◌*◌, ◌^◌, ◌-◌, ◌≤◌, ◌<◌}
+use Prim.Native.Nat.{ℕ, zero, suc, ◌*◌, ◌^◌, ◌≤◌, ◌<◌}
 use native.Mathlib.Nat.{le_trans, pow-suc, mul-le-mul, mul-le-mul_left, mul-le-mul_right}
 use native.Mathlib.Omega.{arith}
 use mathlib.Core.Path.{◌≡◌, refl, subst}
 use mathlib.Core.Bool.{Bool, true, false}
-use Rattle.mdp.specs.Sums.{if◌then◌else◌}
+use Rattle.std.specs.Prelude.{if◌then◌else◌}
 use Rattle.mdp.specs.Mdp.{Mdp, Fair, P, Q, weighing, Strategy, alone}
 use Rattle.mdp.specs.Kinds.{Kind}
 use Rattle.mdp.specs.Graph.{Graph, along, IsExpanded, Labelled, Valued}

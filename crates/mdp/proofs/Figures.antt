@@ -6,7 +6,8 @@ use native.Mathlib.Omega.{arith}
 use mathlib.Core.Path.{◌≡◌, refl, sym}
 use mathlib.Core.Logic.{◌≢◌}
 use mathlib.Core.Bool.{true}
-use Rattle.mdp.specs.Sums.{greatest, if◌then◌else◌}
+use Rattle.mdp.specs.Sums.{greatest}
+use Rattle.std.specs.Prelude.{if◌then◌else◌}
 use Rattle.mdp.specs.Mdp.{Mdp, Fair, P, weighing}
 use Rattle.mdp.specs.Kinds.{Kind}
 use Rattle.mdp.specs.Graph.{Graph, along, IsExpanded, Labelled, again, shared, round, up, figure}

@@ -17,8 +17,3 @@ greatest (suc n) f = max (greatest n (λ i h. f i (le_step h))) (f n (le_refl (s
 -- x / d, rounded up.
 abbrev pub rounded_up : ℕ → ℕ → ℕ
 rounded_up x d = (x + (d - 1)) / d
-
-infix 10 if◌then◌else◌
-abbrev pub if◌then◌else◌ : Bool → ℕ → ℕ → ℕ
-if true then a else b = a
-if false then a else b = b

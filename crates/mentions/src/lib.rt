@@ -1,5 +1,8 @@
 // The variables that each entry of an expression body mentions, worked out once, and the lowest of such a set that a label
 // does not track (document 02, 2.2).
+
+#![tactic(auto)]
+
 ghost use Rattle.std.specs.Prelude.{◌≡◌, ◌^◌, ◌<◌, ◌≤◌, length, get_or};
 ghost use Rattle.folder.specs.Fields.{field_limit};
 ghost use Rattle.folder.specs.Contents.{count_of};

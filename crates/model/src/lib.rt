@@ -1,4 +1,7 @@
 // The model folder: the counts and sizes of its records, rows 1 to 3, and the view.
+
+#![tactic(auto)]
+
 ghost use Rattle.std.specs.Prelude.{◌≡◌, [], ◌+◌, ◌<◌, ◌≤◌, ◌^◌};
 ghost use Rattle.folder.specs.Fields.{field_limit};
 ghost use Rattle.folder.specs.Scan.{first_bad};

@@ -1,4 +1,7 @@
 // What a model folder's records say: rows 4 to 11, and with rows 1 to 3 the model check.
+
+#![tactic(auto)]
+
 ghost use Rattle.std.specs.Prelude.{◌≡◌, [], ◌+◌, ◌≤◌, drop};
 ghost use Rattle.mdp.specs.Sums.{sum};
 ghost use Rattle.folder.specs.Fields.{field_limit};

@@ -1,6 +1,6 @@
 -- Nodes that an expansion writes: from the row of what the entries are in the state of the node that is expanded.
 -- Assumes nothing.
-use Rattle.std.specs.Prelude.{ℕ, zero, suc, ◌+◌, ◌-◌, ◌*◌, ◌<◌, ◌≤◌, ◌≡◌, Bool, ◌&&◌, List, [], ◌++◌, eqb, leb, ltb, length, get_or, ℤ, pos}
+use Rattle.std.specs.Prelude.{ℕ, ◌+◌, ◌-◌, ◌*◌, ◌<◌, ◌≤◌, ◌≡◌, Bool, ◌&&◌, List, eqb, leb, ltb, get_or, ℤ, pos}
 use Rattle.mdp.specs.Sums.{sum}
 use Rattle.folder.specs.Pick.{pick}
 use Rattle.folder.specs.Contents.{field}

@@ -1,4 +1,7 @@
 // A graph while it is built, in the node records of the slice that it is built in: fields read and written, moves made.
+
+#![tactic(auto)]
+
 ghost use Rattle.std.specs.Prelude.{◌≡◌, ◌+◌, ◌*◌, ◌<◌, ◌≤◌, ◌^◌, length};
 ghost use Rattle.folder.specs.Pick.{pick};
 ghost use Rattle.folder.specs.Fields.{field_limit};

@@ -1,4 +1,7 @@
 // Little-endian fields written into a slice.
+
+#![tactic(auto)]
+
 ghost use Rattle.std.specs.Prelude.{◌≡◌, ◌+◌, ◌<◌, ◌%◌, ◌/◌, length};
 ghost use Rattle.folder.specs.Fields.{field_limit, field4_limit};
 ghost use Rattle.put.specs.Put.{put2, put4, unsigned, FitsField};

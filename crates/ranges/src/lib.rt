@@ -1,4 +1,7 @@
 // Ranges: the least and the greatest value that a number can have, by its parts, and row 6 of document 01's table.
+
+#![tactic(auto)]
+
 ghost use Rattle.std.specs.Prelude.{◌≡◌, ◌<◌, ◌≤◌, length, get_or, pos};
 ghost use Rattle.folder.specs.Fields.{field_limit};
 ghost use Rattle.folder.specs.Contents.{count_of};

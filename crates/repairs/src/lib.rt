@@ -1,4 +1,7 @@
 // The repair of the lowest node that has a broken rule. Only nodes that are marked can have one.
+
+#![tactic(auto)]
+
 ghost use Rattle.std.specs.Prelude.{◌≡◌, true, false, ℕ, ◌+◌, ◌*◌, ◌<◌, ◌≤◌, length, set};
 ghost use Rattle.std.proofs.Math.Option.{none, some};
 ghost use Rattle.mdp.specs.Kinds.{Kind};

@@ -1,4 +1,7 @@
 // What the check program prints, written into a lent slice.
+
+#![tactic(auto)]
+
 ghost use Rattle.std.specs.Prelude.{◌≡◌, ◌+◌, ◌/◌, ◌≤◌, length};
 ghost use Rattle.folder.specs.Fields.{field_limit};
 ghost use Rattle.text.specs.Text.{Holds, written};

@@ -1,6 +1,6 @@
 -- One round from the row of the last one, in the words of mdp's rounds; and what the rows hold after h of them.
 -- Assumes nothing.
-use Rattle.std.specs.Prelude.{ℕ, ◌≤◌, ◌<◌, ◌≡◌, Bool, List, length, get_or, eqb}
+use Rattle.std.specs.Prelude.{ℕ, ◌≤◌, ◌≡◌, Bool, List, get_or, eqb}
 use Rattle.mdp.specs.Graph.{start, again, shared, up, figure}
 use Rattle.folder.specs.Fields.{field_limit}
 use Rattle.folder.specs.Pick.{pick}

@@ -1,5 +1,8 @@
 // An index of a graph's nodes by concrete label: slots in a row that the caller lends. nb is the graph's node body, x a
 // state.
+
+#![tactic(auto)]
+
 ghost use Rattle.std.specs.Prelude.{◌≡◌, ◌+◌, ◌/◌, ◌<◌, ◌≤◌, get_or, length, ltb};
 ghost use Rattle.folder.specs.Pick.{pick};
 ghost use Rattle.folder.specs.Fields.{field_limit};

@@ -2,6 +2,9 @@
 // folders' bytes by itself, works expressions out by plain recursion and finds best chances by going through the
 // states. It believes that its model passed the check; on any bytes it is safe and it ends, and that is all its
 // contracts say. A whole number x is kept as ZERO + x, so that no number here is signed.
+
+#![tactic(auto)]
+
 use clamped::{FIELD_LIMIT, HALF_LIMIT, add, field, long, mul, sub};
 
 pub const ZERO: usize = 1099511627776;

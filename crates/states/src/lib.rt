@@ -1,5 +1,8 @@
 // Readings by all states (document 02, 2.4): what reads unknown three ways is looked at in each combination of the values of
 // the untracked variables that it mentions, together with all that have the same ones.
+
+#![tactic(auto)]
+
 ghost use Rattle.std.specs.Prelude.{◌≡◌, true, false, ◌++◌, ℕ, ◌+◌, ◌<◌, ◌≤◌, length, get_or, set, drop, pos};
 ghost use Rattle.folder.specs.Pick.{pick};
 ghost use Rattle.folder.specs.Fields.{field_limit};

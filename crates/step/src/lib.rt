@@ -1,4 +1,7 @@
 // The step of a state by command and branch: rows 29 to 33 of document 01's table, and the result row.
+
+#![tactic(auto)]
+
 ghost use Rattle.std.specs.Prelude.{◌≡◌, ◌++◌, ◌≤◌, length, drop};
 ghost use Rattle.std.specs.Int.Signed.{mag};
 ghost use Rattle.folder.specs.Fields.{field_limit};

@@ -1,4 +1,7 @@
 // Sums over edges: of one edge, the greatest of a node's, and the figure that it gives; and the tables they read.
+
+#![tactic(auto)]
+
 ghost use Rattle.std.specs.Prelude.{◌≡◌, ◌+◌, ◌*◌, ◌<◌, ◌≤◌, ◌^◌, max, length};
 ghost use Rattle.mdp.specs.Sums.{rounded_up};
 ghost use Rattle.folder.specs.Fields.{field_limit};

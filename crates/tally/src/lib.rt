@@ -2,9 +2,13 @@
 // of the group that is being run, and of all groups the wrong ones, the steps compared with the solver's, the bounds
 // tried and those whose numbers are past 64 bits; last where the run is, by a line of the script or a varied folder.
 // What is wrong is told as it is found. Safe and ending on any arguments; its contracts say no more.
+
+#![tactic(auto)]
+
 use clamped::add;
 use folder::{Outcome, Refusal};
 use graph::GraphAnswer;
+use std::io;
 
 // The last refusal of the table.
 const LAST: usize = 35;
@@ -24,12 +28,12 @@ pub const PLACE: usize = LAST + 6;
 // How long a tally is.
 pub const TALLY: usize = LAST + 7;
 
-pub fn say(text: &[u8]) {
-    io::write_all(1, text);
+pub fn say(rt: &impl Print, text: &[u8]) -> io::Result<()> {
+    rt.write_all(text)
 }
 
-fn say_number(n: usize) {
-    io::print_decimal(1, n as u64);
+fn say_number(rt: &impl Print, n: usize) -> io::Result<()> {
+    print!(rt; "{n}")
 }
 
 pub fn count(t: &mut [usize; TALLY], k: usize) {
@@ -62,31 +66,37 @@ pub fn outcome_of(a: GraphAnswer) -> Outcome {
 }
 
 // Whether a case holds; where it does not, the place in the run starts a line.
-fn passes(t: &mut [usize; TALLY], ok: bool) -> bool {
+fn passes(rt: &impl Print, t: &mut [usize; TALLY], ok: bool) -> io::Result<bool> {
     count(t, CASES);
     if ok {
-        return true;
+        return Ok(true);
     }
     count(t, WRONG);
-    say(b"wrong at ");
-    say_number(t[PLACE]);
-    say(b":");
-    false
+    say(rt, b"wrong at ")?;
+    say_number(rt, t[PLACE])?;
+    say(rt, b":")?;
+    Ok(false)
 }
 
-fn say_next(n: usize) {
-    say(b" ");
-    say_number(n);
+fn say_next(rt: &impl Print, n: usize) -> io::Result<()> {
+    say(rt, b" ")?;
+    say_number(rt, n)
 }
 
 // A case that is due to hold; where it does not, two numbers that came are told.
-pub fn hold(t: &mut [usize; TALLY], ok: bool, first: usize, second: usize) {
-    if passes(t, ok) {
-        return;
+pub fn hold(
+    rt: &impl Print,
+    t: &mut [usize; TALLY],
+    ok: bool,
+    first: usize,
+    second: usize,
+) -> io::Result<()> {
+    if passes(rt, t, ok)? {
+        return Ok(());
     }
-    say_next(first);
-    say_next(second);
-    say(b"\n");
+    say_next(rt, first)?;
+    say_next(rt, second)?;
+    say(rt, b"\n")
 }
 
 fn same_answer(a: Refusal, b: Refusal) -> bool {
@@ -94,59 +104,61 @@ fn same_answer(a: Refusal, b: Refusal) -> bool {
 }
 
 // A case whose answer is due to be this one, with both places.
-pub fn judge(t: &mut [usize; TALLY], o: Outcome, due: Refusal) {
+pub fn judge(rt: &impl Print, t: &mut [usize; TALLY], o: Outcome, due: Refusal) -> io::Result<()> {
     let came = answer_of(o);
     count(t, came.number);
-    if passes(t, same_answer(came, due)) {
-        return;
+    if passes(rt, t, same_answer(came, due))? {
+        return Ok(());
     }
-    say_next(came.number);
-    say_next(came.place);
-    say_next(came.second);
-    say(b"\n");
+    say_next(rt, came.number)?;
+    say_next(rt, came.place)?;
+    say_next(rt, came.second)?;
+    say(rt, b"\n")
 }
 
 // The line of a group, whose count starts anew.
-pub fn close_group(t: &mut [usize; TALLY], name: &[u8]) {
-    say_count(name, t[CASES]);
+pub fn close_group(rt: &impl Print, t: &mut [usize; TALLY], name: &[u8]) -> io::Result<()> {
+    say_count(rt, name, t[CASES])?;
     t[CASES] = 0;
+    Ok(())
 }
 
 // A count that is not 0.
-fn say_count(name: &[u8], n: usize) {
+fn say_count(rt: &impl Print, name: &[u8], n: usize) -> io::Result<()> {
     if n == 0 {
-        return;
+        return Ok(());
     }
-    say(name);
-    say(b": ");
-    say_number(n);
-    say(b"\n");
+    say(rt, name)?;
+    say(rt, b": ")?;
+    say_number(rt, n)?;
+    say(rt, b"\n")
 }
 
 // How often the refusal k was seen, if it was.
-fn say_seen(k: usize, n: usize) {
+fn say_seen(rt: &impl Print, k: usize, n: usize) -> io::Result<()> {
     if n == 0 {
-        return;
+        return Ok(());
     }
-    say(b"refused ");
-    say_number(k);
-    say_count(b"", n);
+    say(rt, b"refused ")?;
+    say_number(rt, k)?;
+    say_count(rt, b"", n)
 }
 
-fn say_all_seen(t: &[usize; TALLY]) {
+fn say_all_seen(rt: &impl Print, t: &[usize; TALLY]) -> io::Result<()> {
     let mut i = 1;
     while i <= LAST {
-        say_seen(i, t[i]);
+        say_seen(rt, i, t[i])?;
         i += 1;
     }
+    Ok(())
 }
 
-pub fn say_table(t: &[usize; TALLY]) {
-    say_count(b"steps compared with the solver's", t[STEPS]);
-    say_count(b"bounds tried by the solver", t[BOUNDS]);
-    say_count(b"bounds past 64 bits, not tried", t[TOO_BIG]);
-    say_count(b"accepted", t[0]);
-    say_all_seen(t);
-    say_number(t[WRONG]);
-    say(b" wrong\n");
+pub fn say_table(rt: &impl Print, t: &[usize; TALLY]) -> io::Result<()> {
+    say_count(rt, b"steps compared with the solver's", t[STEPS])?;
+    say_count(rt, b"bounds tried by the solver", t[BOUNDS])?;
+    say_count(rt, b"bounds past 64 bits, not tried", t[TOO_BIG])?;
+    say_count(rt, b"accepted", t[0])?;
+    say_all_seen(rt, t)?;
+    say_number(rt, t[WRONG])?;
+    say(rt, b" wrong\n")
 }

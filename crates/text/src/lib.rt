@@ -1,4 +1,7 @@
 // Text written into a lent slice, from a position on.
+
+#![tactic(auto)]
+
 ghost use Rattle.std.specs.Prelude.{◌≡◌, ◌+◌, ◌≤◌, length, ◌++◌};
 ghost use Rattle.text.specs.Text.{written, decimal, decimal_within, most_text};
 

@@ -1,5 +1,8 @@
 // The view of a model folder as a struct: it holds the folder and where its bodies start, so that a lookup reads no
 // contents.
+
+#![tactic(auto)]
+
 ghost use Rattle.std.specs.Prelude.{◌≡◌, ◌+◌, ◌<◌};
 ghost use Rattle.model.specs.View.{view_start, view_part};
 ghost use Rattle.view.specs.Starts.{starts_of, start_in, bytes_in, size_in, is_in};

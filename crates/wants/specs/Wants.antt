@@ -1,7 +1,7 @@
 -- Document 02, 2.5: what the label of a node wants, by the records that hold the graph while it is built; and what reading it
 -- stands on.
 -- Assumes nothing.
-use Rattle.std.specs.Prelude.{ℕ, ◌+◌, ◌<◌, ◌≤◌, ◌≡◌, Bool, true, false, List, eqb, length, ℤ}
+use Rattle.std.specs.Prelude.{ℕ, ◌+◌, ◌<◌, ◌≤◌, ◌≡◌, true, List, eqb, length, ℤ}
 use Rattle.std.proofs.Math.Option.{Option, none, some}
 use Rattle.folder.specs.Pick.{pick}
 use Rattle.folder.specs.Contents.{field}
@@ -10,7 +10,7 @@ use Rattle.expressions.specs.Reading.{has_bit}
 use Rattle.expressions.specs.States.{number_told, truth_told}
 use Rattle.mentions.specs.Masked.{Masked}
 use Rattle.states.specs.Stated.{StateRow}
-use Rattle.states.specs.Read.{Flagged, Widened}
+use Rattle.states.specs.Read.{Flagged}
 use Rattle.model.specs.Model.{model_of, first_record}
 use Rattle.building.specs.First.{◌orelse◌, given, first}
 use Rattle.building.specs.Building.{enabled, before, births}

@@ -1,5 +1,8 @@
 // What the label of a node wants while a graph is built: which variable it must track for its guards, its target and its
 // children's labels to read known; NO_VARIABLE where it wants none. Entries are settled once for a visit, and read by all states where they must be.
+
+#![tactic(auto)]
+
 ghost use Rattle.std.specs.Prelude.{◌≡◌, true, false, not, ◌&&◌, ℕ, ◌+◌, ◌<◌, ◌≤◌, length};
 ghost use Rattle.std.proofs.Math.Option.{none};
 ghost use Rattle.folder.specs.Fields.{field_limit};

@@ -1,4 +1,7 @@
 // What the builder holds besides the records: a few numbers.
+
+#![tactic(auto)]
+
 ghost use Rattle.std.specs.Prelude.{◌≡◌, ◌+◌, ◌<◌, ◌≤◌, min, max, length};
 ghost use Rattle.folder.specs.Fields.{field_limit};
 ghost use Rattle.model.specs.Limits.{most_variables};

@@ -7,10 +7,10 @@ use Rattle.assembly.proofs.CallLaws.{build-asks}
 use Rattle.assembly.proofs.build_lent.Goals as goal
 
 pub build_fill-requires : goal.build_fill-requires
-build_fill-requires c = record { valid = c.requires; build_right = (accepted-asks (build-asks (model_of c.args.m.now) c.args.rounds c.args.out.now)).0 (sym c.build_check-o.ensures ∙ c.enum_told-1.given.1) }
+build_fill-requires c = record { valid = c.requires; build_right = (accepted-asks (build-asks (model_of c.args.m.now) c.args.rounds c.args.out.now)).0 (sym c.build_check-o.ensures ∙ c.in-Accepted.is) }
 
 pub returns-in-Refused : goal.returns-in-Refused
-returns-in-Refused c = let e = sym c.build_check-o.ensures ∙ c.o-1.given.1 in record { value = sym (ap (answer_of (model_of c.args.m.now) c.args.rounds c.args.out.now) e); out_after = sym (ap (slice_of (model_of c.args.m.now) c.args.rounds c.args.out.now) e) }
+returns-in-Refused c = let e = sym c.build_check-o.ensures ∙ c.in-Refused.is in record { value = sym (ap (answer_of (model_of c.args.m.now) c.args.rounds c.args.out.now) e); out_after = sym (ap (slice_of (model_of c.args.m.now) c.args.rounds c.args.out.now) e) }
 
 pub returns-in-Accepted : goal.returns-in-Accepted
-returns-in-Accepted c = let e = sym c.build_check-o.ensures ∙ c.enum_told-1.given.1 in record { value = ap Built c.build_fill.ensures.value ∙ sym (ap (answer_of (model_of c.args.m.now) c.args.rounds c.args.out.now) e); out_after = c.build_fill.ensures.out_after ∙ sym (ap (slice_of (model_of c.args.m.now) c.args.rounds c.args.out.now) e) }
+returns-in-Accepted c = let e = sym c.build_check-o.ensures ∙ c.in-Accepted.is in record { value = ap Built c.build_fill.ensures.value ∙ sym (ap (answer_of (model_of c.args.m.now) c.args.rounds c.args.out.now) e); out_after = c.build_fill.ensures.out_after ∙ sym (ap (slice_of (model_of c.args.m.now) c.args.rounds c.args.out.now) e) }

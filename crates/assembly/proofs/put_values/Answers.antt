@@ -1,4 +1,3 @@
-use Prim.Native.Nat.{◌-◌}
 use native.Mathlib.Omega.{arith}
 use Rattle.folder.proofs.ContentsLaws.{product_small}
 use Rattle.assembly.proofs.Putting.{word-within, valued-start, valued-next, valued-over}

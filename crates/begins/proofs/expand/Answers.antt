@@ -7,6 +7,3 @@ move_later-requires c = record { from_le_to = (omega (arith, c.requires), omega 
 
 pub returns : goal.returns
 returns c = expanded _ _ _ _ _ c.requires.n_lt_nodes.0 c.move_later.ensures c.begin_at.ensures
-
--- left: requires as a whole: c.before.before.requires
--- left: requires as a whole: c.before.before.requires

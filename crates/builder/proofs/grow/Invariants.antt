@@ -6,7 +6,7 @@ use Rattle.builder.proofs.Loop.{Growing}
 use Rattle.builder.proofs.grow.Given as goal
 
 abbrev pub invariant-loop-mv : goal.invariant-loop-mv
-invariant-loop-mv l = Growing l.m l.initial.begins l.initial.w.nodes l.masks l.initial.nb l.initial.marks l.initial.reaches l.w l.nb l.marks l.reaches l.begins (told l.mv)
+invariant-loop-mv l = Growing l.m l.longest l.initial.w.nodes l.initial.nb l.initial.marks l.initial.reaches l.initial.begins l.w l.nb l.marks l.reaches l.begins (told l.mv)
 
 abbrev pub decreases-loop-mv : goal.decreases-loop-mv
-decreases-loop-mv l = measure (model_of l.m) (limit_of l.initial.begins) (graph_in l.m l.w l.nb)
+decreases-loop-mv l = measure (model_of l.m) (limit_of l.longest) (graph_in l.m l.w l.nb)

@@ -6,4 +6,4 @@ use Rattle.choices.proofs.high_at.Goals as goal
 
 pub returns : goal.returns
 returns c =
-    back c.signed_field.type-inv ∙ c.signed_field.ensures ∙ ap (λ (r : Range). r.high) (bound-here c.args.y.now c.args.v refl c.requires.v_bound)
+    back c.signed_field.type_inv ∙ c.signed_field.ensures ∙ ap (λ (r : Range). r.high) (bound-here c.args.y.now c.args.v refl c.requires.v_bound)

@@ -5,7 +5,7 @@ use Rattle.choices.specs.Ranged.{label_in}
 use Rattle.choices.proofs.load_first.Given as goal
 
 abbrev pub invariant-loop-v : goal.invariant-loop-v
-invariant-loop-v l = (m : ℕ) → Filled (value_in (label_in l.y l.t l.vals) m 0) l.initial.row l.n l.row l.v
+invariant-loop-v l = (m : ℕ) → Filled (value_in (label_in l.y l.t l.vals) m 0) l.n l.initial.row l.row l.v
 
 abbrev pub decreases-loop-v : goal.decreases-loop-v
-decreases-loop-v l = l.initial.row - l.v
+decreases-loop-v l = l.n - l.v

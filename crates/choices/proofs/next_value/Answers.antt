@@ -1,4 +1,4 @@
-use mathlib.Core.Path.{◌≡◌, sym, ap, ◌∙◌}
+use mathlib.Core.Path.{sym, ap, ◌∙◌}
 use native.Mathlib.Omega.{arith}
 use lib.IntN.{ℤ, pos, ◌+ℤ◌}
 use Rattle.folder.proofs.Signed.{back, back_fits}
@@ -8,31 +8,24 @@ use Rattle.choices.specs.Next.{stops_at}
 use Rattle.choices.proofs.Steps.{stops-less, next_up, next-back, next-held}
 use Rattle.choices.proofs.next_value.Goals as goal
 
--- What the test answered.
-told : (c : goal.After-stops_at) → stops_at (bound_in c.args.y.now) c.args.m c.args.t c.args.v c.args.z ≡ c.stops_at.result
-told c =
-    let c.args = c.args in
-    sym (c.stops_at.ensures ∙ ap (λ (z : ℤ). stops_at (bound_in c.args.y.now) c.args.m c.args.t c.args.v z) (back_fits c.ranges.z))
-
-
 pub add-requires : goal.add-requires
 add-requires c =
     let b = bound_in c.args.y.now in
     rw (back_fits c.ranges.z)
     (up_fits c.args.z (b c.args.v).high c.ranges.z (record { sfits = omega (arith, c.requires.ranged.high_small c.args.v c.requires.v_bound) })
-    (stops-less b c.args.m c.args.t c.args.v c.args.z (told c.before ∙ c.if-stops_at.true)))
+    (stops-less b c.args.m c.args.t c.args.v c.args.z ((sym (c.stops_at.ensures ∙ ap (λ (z : ℤ). stops_at (bound_in c.args.y.now) c.args.m c.args.t c.args.v z) (back_fits c.ranges.z))) ∙ c.if-stops_at.true)))
 
 pub returns-then-stops_at : goal.returns-then-stops_at
 returns-then-stops_at c =
-    back c.add.type-inv ∙ c.add.ensures ∙ ap (λ (z : ℤ). z +ℤ pos 1) (back_fits c.ranges.z)
-    ∙ sym (next_up (bound_in c.args.y.now) c.args.m c.args.t c.args.v c.args.z (told c.before.before ∙ c.if-stops_at.true))
+    back c.add.type_inv ∙ c.add.ensures ∙ ap (λ (z : ℤ). z +ℤ pos 1) (back_fits c.ranges.z)
+    ∙ sym (next_up (bound_in c.args.y.now) c.args.m c.args.t c.args.v c.args.z ((sym (c.stops_at.ensures ∙ ap (λ (z : ℤ). stops_at (bound_in c.args.y.now) c.args.m c.args.t c.args.v z) (back_fits c.ranges.z))) ∙ c.if-stops_at.true))
 
 pub returns-then-is_free : goal.returns-then-is_free
 returns-then-is_free c =
-    back c.low_at.type-inv ∙ c.low_at.ensures
-    ∙ sym (next-back (bound_in c.args.y.now) c.args.m c.args.t c.args.v c.args.z (told c.before.before.before.before ∙ c.if-stops_at.false) (sym c.is_free.ensures ∙ c.if-is_free.true))
+    back c.low_at.type_inv ∙ c.low_at.ensures
+    ∙ sym (next-back (bound_in c.args.y.now) c.args.m c.args.t c.args.v c.args.z ((sym (c.stops_at.ensures ∙ ap (λ (z : ℤ). stops_at (bound_in c.args.y.now) c.args.m c.args.t c.args.v z) (back_fits c.ranges.z))) ∙ c.if-stops_at.false) (sym c.is_free.ensures ∙ c.if-is_free.true))
 
 pub returns-else-is_free : goal.returns-else-is_free
 returns-else-is_free c =
     back_fits c.ranges.z
-    ∙ sym (next-held (bound_in c.args.y.now) c.args.m c.args.t c.args.v c.args.z (told c.before.before.before ∙ c.if-stops_at.false) (sym c.is_free.ensures ∙ c.if-is_free.false))
+    ∙ sym (next-held (bound_in c.args.y.now) c.args.m c.args.t c.args.v c.args.z ((sym (c.stops_at.ensures ∙ ap (λ (z : ℤ). stops_at (bound_in c.args.y.now) c.args.m c.args.t c.args.v z) (back_fits c.ranges.z))) ∙ c.if-stops_at.false) (sym c.is_free.ensures ∙ c.if-is_free.false))

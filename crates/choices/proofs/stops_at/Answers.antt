@@ -8,4 +8,4 @@ use Rattle.choices.proofs.stops_at.Goals as goal
 pub returns : goal.returns
 unfolding stops_at
 returns c =
-    ap₂ ◌&&◌ c.is_free.ensures (c.less.ensures ∙ ap₂ lt_z (back_fits c.ranges.z) (back c.high_at.type-inv ∙ c.high_at.ensures))
+    ap₂ ◌&&◌ c.is_free.ensures (c.less.ensures ∙ ap₂ lt_z (back_fits c.ranges.z) (back c.high_at.type_inv ∙ c.high_at.ensures))

@@ -1,4 +1,3 @@
-use Prim.Native.Nat.{◌-◌}
 use native.Mathlib.Nat.{mul-le-mul}
 use native.Mathlib.Omega.{arith}
 use Rattle.expressions.specs.Ranges.{bound_in}
@@ -6,9 +5,6 @@ use Rattle.expressions.specs.Combinations.{combinations}
 use Rattle.expressions.proofs.Combinations.{choices-some}
 use Rattle.choices.proofs.Grown.{grown-start, grown-next, grown-past, grown-over}
 use Rattle.choices.proofs.ways.Goals as goal
-
-pub choices_of-p-requires : goal.choices_of-p-requires
-choices_of-p-requires c = record { ranged = c.requires; v_bound = omega (arith, c.loop-v-test.true, c.count_of-n.ensures) }
 
 pub overflow_mul-p : goal.overflow_mul-p
 overflow_mul-p c = record { fits = omega (arith, mul-le-mul c.loop-v.invariant.few c.choices_of-p.ensures.1) }
@@ -28,9 +24,3 @@ returns c = grown-over c.loop-v.invariant c.count_of-n.ensures c.loop-v-test.fal
 
 pub loop-v-init : goal.loop-v-init
 loop-v-init c = grown-start _ _
-
-pub overflow_add-v : goal.overflow_add-v
-overflow_add-v c = omega arith
-
-pub loop-v-smaller : goal.loop-v-smaller
-loop-v-smaller c = omega arith

@@ -29,24 +29,21 @@ module _ (a b r : ℤ) (p : Apart a b) (e : r ≡ b -ℤ a) where
   unfolding width_of
   is-width = rw (read, p.is) (refl, omega (arith, p.small))
 
+pub overflow_cast-result : goal.overflow_cast-result
+overflow_cast-result c =
+    let p = apart c.args.low c.args.high c.requires.low_le_high c.requires.low_bound.0 c.requires.low_bound.1 in
+    cast_ok _ _ c.sub.result p (rw (back_fits c.ranges.high, back_fits c.ranges.low) at c.sub.ensures)
 
--- What the call gave.
-module _ (c : goal.After-sub) where
-  parts : Apart c.before.args.low c.before.args.high
-  parts = let s = c.before in apart s.args.low s.args.high s.requires.0 s.requires.1.0 s.requires.1.1
+pub overflow_add-result : goal.overflow_add-result
+overflow_add-result c =
+    let p = apart c.args.low c.args.high c.requires.low_le_high c.requires.low_bound.0 c.requires.low_bound.1 in
+    let h = read_small _ _ c.sub.result p (rw (back_fits c.ranges.high, back_fits c.ranges.low) at c.sub.ensures) in
+    record { fits = omega (arith, h) }
 
-  given : c.sub.result ≡ c.before.args.high -ℤ c.before.args.low
-  given = rw (back_fits c.before.ranges.high, back_fits c.before.ranges.low) at c.sub.ensures
-
+pub returns : goal.returns
+returns c =
+    let p = apart c.args.low c.args.high c.requires.low_le_high c.requires.low_bound.0 c.requires.low_bound.1 in
+    is-width _ _ c.sub.result p (rw (back_fits c.ranges.high, back_fits c.ranges.low) at c.sub.ensures)
 
 pub sub-requires : goal.sub-requires
 sub-requires c = sub-near c.args.high c.args.low (omega arith) (omega arith)
-
-pub overflow_cast-result : goal.overflow_cast-result
-overflow_cast-result c = cast_ok _ _ c.sub.result (parts c) (given c)
-
-pub overflow_add-result : goal.overflow_add-result
-overflow_add-result c = let h = read_small _ _ c.sub.result (parts c) (given c) in record { fits = omega (arith, h) }
-
-pub returns : goal.returns
-returns c = is-width _ _ c.sub.result (parts c) (given c)

@@ -1,4 +1,3 @@
-use Prim.Native.Nat.{◌-◌}
 use Rattle.folder.proofs.ScanLaws.{scan-start, scan-next, all-fails, all_pass}
 use Rattle.covers.specs.Covers.{agrees_in}
 use Rattle.covers.proofs.CoverLaws.{field-by}

@@ -1,4 +1,3 @@
-use Prim.Native.Nat.{◌-◌}
 use native.Mathlib.Omega.{arith}
 use Rattle.covers.proofs.Lowering.{lower-start, whole-still, lower-next, lower-over}
 use Rattle.covers.proofs.lower_hints.Goals as goal

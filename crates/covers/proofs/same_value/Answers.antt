@@ -4,6 +4,6 @@ use Rattle.covers.proofs.same_value.Goals as goal
 
 pub returns : goal.returns
 returns c =
-    let e = back c.signed_field.type-inv ∙ c.signed_field.ensures in
-    let f = back c.signed_field-2.type-inv ∙ c.signed_field-2.ensures in
+    let e = back c.signed_field.type_inv ∙ c.signed_field.ensures in
+    let f = back c.signed_field-2.type_inv ∙ c.signed_field-2.ensures in
     cc

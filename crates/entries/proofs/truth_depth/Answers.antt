@@ -2,10 +2,10 @@ use native.Mathlib.Omega.{arith}
 use Rattle.entries.proofs.truth_depth.Goals as goal
 
 pub returns-in-Compare : goal.returns-in-Compare
-returns-in-Compare c = (rw c.f-1.given.1 (omega arith), omega arith)
+returns-in-Compare c = (rw c.in-Compare.is (omega arith), omega arith)
 
 pub returns-in-Not : goal.returns-in-Not
-returns-in-Not c = (rw c.f-in-Not-1.given.1 (omega arith), omega arith)
+returns-in-Not c = (rw c.in-Not.is (omega arith), omega arith)
 
 pub returns-in-Joined : goal.returns-in-Joined
-returns-in-Joined c = (rw c.f-in-Joined-1.given.1 (omega arith), omega arith)
+returns-in-Joined c = (rw c.in-Joined.is (omega arith), omega arith)

@@ -6,7 +6,7 @@ use Rattle.evaluate.proofs.look_in.Goals as goal
 
 pub returns-then-has_bit : goal.returns-then-has_bit
 unfolding look_in
-returns-then-has_bit c = rw (← c.has_bit.ensures, c.if-has_bit.true) (ap Known (back c.value_at.type-inv ∙ c.value_at.ensures))
+returns-then-has_bit c = rw (← c.has_bit.ensures, c.if-has_bit.true) (ap Known (back c.value_at.type_inv ∙ c.value_at.ensures))
 
 pub returns-else-has_bit : goal.returns-else-has_bit
 unfolding look_in

@@ -1,7 +1,6 @@
-use Prim.Native.Nat.{◌-◌}
 use mathlib.Core.Path.{ap, ◌∙◌}
 use native.Mathlib.Omega.{arith}
-use Rattle.folder.proofs.FillLaws.{fill_start, fill-next, fill-over}
+use Rattle.folder.proofs.FillLaws.{fill_start, fill-next}
 use Rattle.folder.proofs.Signed.{back}
 use Rattle.expressions.specs.Entries.{entries_of}
 use Rattle.expressions.specs.Reading.{look_in}
@@ -13,38 +12,10 @@ pub settle_entry-r-requires : goal.settle_entry-r-requires
 settle_entry-r-requires c = record { ready = c.requires.ready; settled = filled (entries_of c.args.x.now) (look_in c.args.t c.args.v.now) c.loop-e.e c.args.known.now c.args.values.now c.loop-e.invariant.0.is c.loop-e.invariant.1.is; e_le_field_limit = omega arith }
 
 pub loop-e-preserved : goal.loop-e-preserved
-loop-e-preserved c =
-    (
-      fill-next c.loop-e.invariant.0 c.loop-e-test.true (omega arith) (c.flag_of.ensures ∙ ap flag_of c.settle_entry-r.ensures),
-      fill-next c.loop-e.invariant.1 c.loop-e-test.true (omega arith) (back c.content_of.type-inv ∙ c.content_of.ensures ∙ ap content_of c.settle_entry-r.ensures),
-    )
-
-pub returns : goal.returns
-returns c = record { known_after = fill-over c.loop-e.invariant.0 c.loop-e-test.false c.count_of-n.ensures; values_after = fill-over c.loop-e.invariant.1 c.loop-e-test.false c.count_of-n.ensures }
-
-pub count_of-n-requires : goal.count_of-n-requires
-count_of-n-requires c = omega arith
+loop-e-preserved c = (
+  fill-next c.loop-e.invariant.0 c.loop-e-test.true (omega arith) (c.flag_of.ensures ∙ ap flag_of c.settle_entry-r.ensures),
+  fill-next c.loop-e.invariant.1 c.loop-e-test.true (omega arith) (back c.content_of.type_inv ∙ c.content_of.ensures ∙ ap content_of c.settle_entry-r.ensures),
+)
 
 pub loop-e-init : goal.loop-e-init
 loop-e-init c = (fill_start _ _ _, fill_start _ _ _)
-
-pub bounds-known-e : goal.bounds-known-e
-bounds-known-e c = omega arith
-
-pub offset_bounds-values-e : goal.offset_bounds-values-e
-offset_bounds-values-e c = omega arith
-
-pub bounds-values-e : goal.bounds-values-e
-bounds-values-e c = omega arith
-
-pub overflow_add-e : goal.overflow_add-e
-overflow_add-e c = omega arith
-
-pub loop-e-smaller : goal.loop-e-smaller
-loop-e-smaller c = omega arith
-
-pub shape_of-known : goal.shape_of-known
-shape_of-known c = c.loop-e.invariant.0.long
-
-pub shape_of-values : goal.shape_of-values
-shape_of-values c = c.loop-e.invariant.1.long

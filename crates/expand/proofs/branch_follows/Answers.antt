@@ -1,4 +1,4 @@
-use Prim.Native.Nat.{◌*◌, ◌-◌}
+use Prim.Native.Nat.{◌*◌}
 use mathlib.Core.Path.{◌≡◌}
 use Rattle.folder.proofs.ScanLaws.{scan-start, scan-next, all-fails, all_pass}
 use Rattle.model.specs.Layout.{branch_size}
@@ -9,19 +9,16 @@ use Rattle.expand.proofs.branch_follows.Goals as goal
 pub variable_follows-requires : goal.variable_follows-requires
 variable_follows-requires c = record { vars_le_most_variables = (c.requires.vars_le_most_variables.0, c.loop-v-test.true); leads = rw (c.lead_of-lead.ensures.0, c.lead_of-lead.ensures.1) c.requires.leads; rows_long = c.requires.rows_long }
 
--- what the code's test of variable v answers
-tested : (c : goal.After-variable_follows)
-    → c.variable_follows.result ≡ variable_follows c.args.vars c.args.nb.now c.args.bs.now c.args.known.now c.args.state.now (branch_size c.args.vars * c.args.r) (node_size c.args.vars * c.args.s) c.loop-v.v
-tested c =
-    rw (← c.lead_of-lead.ensures.0, ← c.lead_of-lead.ensures.1) (c.variable_follows.ensures c.lead_of-lead.ensures.2)
-
-
 pub loop-v-preserved : goal.loop-v-preserved
-loop-v-preserved c = scan-next c.loop-v.invariant c.loop-v-test.true (tested c.before) c.if-variable_follows.true
+loop-v-preserved c =
+    let tested : c.variable_follows.result ≡ variable_follows c.args.vars c.args.nb.now c.args.bs.now c.args.known.now c.args.state.now (branch_size c.args.vars * c.args.r) (node_size c.args.vars * c.args.s) c.loop-v.v = rw (← c.lead_of-lead.ensures.0, ← c.lead_of-lead.ensures.1) (c.variable_follows.ensures c.lead_of-lead.ensures.2) in
+    scan-next c.loop-v.invariant c.loop-v-test.true tested c.if-variable_follows.true
 
 pub returns-else-variable_follows : goal.returns-else-variable_follows
 unfolding branch_follows
-returns-else-variable_follows c = all-fails c.loop-v.invariant c.loop-v-test.true (tested c.before) c.if-variable_follows.false
+returns-else-variable_follows c =
+    let tested : c.variable_follows.result ≡ variable_follows c.args.vars c.args.nb.now c.args.bs.now c.args.known.now c.args.state.now (branch_size c.args.vars * c.args.r) (node_size c.args.vars * c.args.s) c.loop-v.v = rw (← c.lead_of-lead.ensures.0, ← c.lead_of-lead.ensures.1) (c.variable_follows.ensures c.lead_of-lead.ensures.2) in
+    all-fails c.loop-v.invariant c.loop-v-test.true tested c.if-variable_follows.false
 
 pub returns : goal.returns
 unfolding branch_follows

@@ -1,29 +1,23 @@
-use Prim.Native.Nat.{◌-◌, ◌≤◌}
 use mathlib.Core.Path.{◌∙◌}
-use mathlib.Core.Logic.{⊎_elim}
 use native.Mathlib.Omega.{arith}
-use Rattle.graph.specs.Limits.{most_bytes}
 use Rattle.expand.specs.Tests.{holds_at}
 use Rattle.expand.proofs.Sizes.{cursor-small}
 use Rattle.expand.proofs.Readings.{at-guard}
 use Rattle.expand.proofs.EnabledLaws.{walk_start, walk-skip, walk-take, walk-fails, walk-over, same_edges_lem}
 use Rattle.expand.proofs.edges_enabled.Goals as goal
+use Rattle.expand.proofs.edges_enabled.Goals.{then-holds_at+then-names_at, else-holds_at}
 
 pub loop-c-init : goal.loop-c-init
 loop-c-init c = walk_start _ _ _ _ _ _ c.requires.at_value
 
-cursor : (l : goal.At-loop-c) → l.loop.p ≤ most_bytes
-cursor l = cursor-small l.before.before.before.before.before.before.before.requires.0 l.loop.k l.before.node-field.ensures.0 l.loop.invariant.few l.loop.invariant.stands_at
-
-
 pub names_at-requires : goal.names_at-requires
-names_at-requires c = omega (arith, cursor c.before.before.before.before)
+names_at-requires c = omega (arith, cursor-small c.requires.node_of c.loop-c.k c.node_field-edges.ensures.0 c.loop-c.invariant.few c.loop-c.invariant.stands_at)
 
 pub edge_size-p-requires : goal.edge_size-p-requires
-edge_size-p-requires c = omega (arith, cursor c.before.before.before.before.before.before)
+edge_size-p-requires c = omega (arith, cursor-small c.requires.node_of c.loop-c.k c.node_field-edges.ensures.0 c.loop-c.invariant.few c.loop-c.invariant.stands_at)
 
 pub overflow_add-p : goal.overflow_add-p
-overflow_add-p c = omega (arith, cursor c.before.before.before.before.before.before.before, c.edge_size-p.ensures.1)
+overflow_add-p c = omega (arith, cursor-small c.requires.node_of c.loop-c.k c.node_field-edges.ensures.0 c.loop-c.invariant.few c.loop-c.invariant.stands_at, c.edge_size-p.ensures.1)
 
 pub returns-else-names_at : goal.returns-else-names_at
 returns-else-names_at c =
@@ -35,10 +29,10 @@ returns-else-names_at c =
 pub loop-c-preserved : goal.loop-c-preserved
 loop-c-preserved c =
     let h = at-guard (holds_at _) _ _ c.body-cs.ensures c.field.ensures.0 c.holds_at.ensures in
-    ⊎_elim
-    (λ w. walk-take _ _ _ _ c.loop-c.invariant c.loop-c-test.true h c.body-eb.ensures w.1.ensures w.0.taken w.2.taken (w.3.ensures.0 _ c.body-cs.ensures) w.4 w.5)
-    (λ w. walk-skip _ _ _ _ c.loop-c.invariant c.loop-c-test.true h w.0.left w.1 w.2)
-    c.if-holds_at.branch
+    elim c.if-holds_at.branch [
+      | then-holds_at+then-names_at w ↦ walk-take _ _ _ _ c.loop-c.invariant c.loop-c-test.true h c.body-eb.ensures w.names_at.ensures w.if-holds_at.true w.if-names_at.true (w.edge_size-p.ensures.0 _ c.body-cs.ensures) w.k-is w.p-is
+      | else-holds_at w ↦ walk-skip _ _ _ _ c.loop-c.invariant c.loop-c-test.true h w.if-holds_at.false w.k-is w.p-is
+    ]
 
 pub returns : goal.returns
 returns c =

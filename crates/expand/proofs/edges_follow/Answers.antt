@@ -1,4 +1,4 @@
-use Prim.Native.Nat.{◌+◌, ◌*◌, ◌-◌, ◌^◌, ◌<◌, ◌≤◌}
+use Prim.Native.Nat.{◌+◌, ◌*◌, ◌^◌, ◌<◌, ◌≤◌}
 use mathlib.Core.Path.{◌≡◌, refl, sym, ap, ◌∙◌}
 use mathlib.Core.Bool.{false≢true}
 use native.Mathlib.Omega.{arith}
@@ -11,68 +11,80 @@ use Rattle.expand.proofs.Sizes.{cursor-small}
 use Rattle.expand.proofs.FollowLaws.{EdgeHere, EdgeRead, Held, followed-scan, scan-followed, next-stands, first-there, all-lead, records-fit, edge-passes, edge-breaks, branch-found, second-found}
 use Rattle.expand.proofs.edges_follow.Goals as goal
 
-cursor : (c : goal.At-loop-e) → c.loop-e.p ≤ most_bytes
-cursor c = cursor-small c.requires.node_of c.loop-e.e c.node_field-edges.ensures.0 c.loop-e.invariant.0.within c.loop-e.invariant.1
-
-
-held : (c : goal.At-loop-e) → Held c.args.m.now c.args.g.now c.variable_count-vars.result c.body-bs.result.now c.body-nb.result.now
-held c = record { variables = c.variable_count-vars.ensures.0; records-in = c.body-bs.ensures; nodes-in = c.body-nb.ensures }
-
-
-here : (c : goal.In-loop-e) → EdgeHere c.args.m.now c.args.g.now c.args.n c.body-eb.result.now c.node_field-edges.result c.loop-e.e c.loop-e.p
-here c = record { edges-in = c.body-eb.ensures; count = c.node_field-edges.ensures.0; within = c.loop-e-test.true; stands = c.loop-e.invariant.1 }
-
-
-read : (c : goal.After-edge_at-edge)
-    → EdgeRead c.args.m.now c.args.g.now c.args.n c.body-cs.result.now c.body-eb.result.now c.args.firsts.now c.node_field-edges.result c.loop-e.e c.loop-e.p
-    c.edge_at-edge.result.at c.edge_at-edge.result.first c.edge_at-edge.result.branches
-read c = record { here = here c.before; commands-in = c.body-cs.ensures; same = c.edge_at-edge.ensures.0; starting = c.edge_at-edge.ensures.1; branching = c.edge_at-edge.ensures.2 }
-
-
 pub loop-e-init : goal.loop-e-init
 loop-e-init c = (followed-scan c.requires.followed_to c.node_field-edges.ensures.0, c.requires.followed_to.stands)
 
 pub edge_at-edge-requires : goal.edge_at-edge-requires
-edge_at-edge-requires c = record { p_bound = omega (arith, cursor c.before); p_in_bounds = first-there c.requires.node_of (here c) c.requires.firsts_of }
+edge_at-edge-requires c = let cursor : c.loop-e.p ≤ most_bytes = cursor-small c.requires.node_of c.loop-e.e c.node_field-edges.ensures.0 c.loop-e.invariant.0.within c.loop-e.invariant.1 in
+    let here : EdgeHere c.args.m.now c.args.g.now c.args.n c.body-eb.result.now c.node_field-edges.result c.loop-e.e c.loop-e.p = record { edges-in = c.body-eb.ensures; count = c.node_field-edges.ensures.0; within = c.loop-e-test.true; stands = c.loop-e.invariant.1 } in record { p_bound = omega (arith, cursor); p_in_bounds = first-there c.requires.node_of here c.requires.firsts_of }
 
 pub first_bad_branch-b-requires : goal.first_bad_branch-b-requires
-first_bad_branch-b-requires c = record { vars_le_most_variables = (c.variable_count-vars.ensures.1, records-fit c.requires.node_of (read c) c.requires.firsts_of, omega (arith, cursor c.before.before, c.edge_at-edge.ensures.0)); all_lead = all-lead c.requires.node_of (read c) c.requires.firsts_of (held c.before.before); rows_long = c.requires.rows_long }
-
--- the successor that does not follow is read from within the edges
-successor-near : (c : goal.Then-b-edge) → c.loop-e.p + 2 + 2 * c.first_bad_branch-b.result < 2 ^ 40
-successor-near c = omega (arith, cursor c.before.before.before.before.before, c.if-b-edge.true, c.edge_at-edge.ensures.3)
-
+first_bad_branch-b-requires c = let cursor : c.loop-e.p ≤ most_bytes = cursor-small c.requires.node_of c.loop-e.e c.node_field-edges.ensures.0 c.loop-e.invariant.0.within c.loop-e.invariant.1 in
+    let held : Held c.args.m.now c.args.g.now c.variable_count-vars.result c.body-bs.result.now c.body-nb.result.now = record { variables = c.variable_count-vars.ensures.0; records-in = c.body-bs.ensures; nodes-in = c.body-nb.ensures } in
+    let here : EdgeHere c.args.m.now c.args.g.now c.args.n c.body-eb.result.now c.node_field-edges.result c.loop-e.e c.loop-e.p = record { edges-in = c.body-eb.ensures; count = c.node_field-edges.ensures.0; within = c.loop-e-test.true; stands = c.loop-e.invariant.1 } in
+    let read : EdgeRead c.args.m.now c.args.g.now c.args.n c.body-cs.result.now c.body-eb.result.now c.args.firsts.now c.node_field-edges.result c.loop-e.e c.loop-e.p
+    c.edge_at-edge.result.at c.edge_at-edge.result.first c.edge_at-edge.result.branches = record { here = here; commands-in = c.body-cs.ensures; same = c.edge_at-edge.ensures.0; starting = c.edge_at-edge.ensures.1; branching = c.edge_at-edge.ensures.2 } in record { vars_le_most_variables = (c.variable_count-vars.ensures.1, records-fit c.requires.node_of read c.requires.firsts_of, omega (arith, cursor, c.edge_at-edge.ensures.0)); all_lead = all-lead c.requires.node_of read c.requires.firsts_of held; rows_long = c.requires.rows_long }
 
 pub overflow_add-branch : goal.overflow_add-branch
-overflow_add-branch c = omega (arith, records-fit c.requires.node_of (read c.before.before.before.before.before) c.requires.firsts_of, c.if-b-edge.true)
+overflow_add-branch c =
+    let here : EdgeHere c.args.m.now c.args.g.now c.args.n c.body-eb.result.now c.node_field-edges.result c.loop-e.e c.loop-e.p = record { edges-in = c.body-eb.ensures; count = c.node_field-edges.ensures.0; within = c.loop-e-test.true; stands = c.loop-e.invariant.1 } in
+    let read : EdgeRead c.args.m.now c.args.g.now c.args.n c.body-cs.result.now c.body-eb.result.now c.args.firsts.now c.node_field-edges.result c.loop-e.e c.loop-e.p
+    c.edge_at-edge.result.at c.edge_at-edge.result.first c.edge_at-edge.result.branches = record { here = here; commands-in = c.body-cs.ensures; same = c.edge_at-edge.ensures.0; starting = c.edge_at-edge.ensures.1; branching = c.edge_at-edge.ensures.2 } in
+    omega (arith, records-fit c.requires.node_of read c.requires.firsts_of, c.if-b-edge.true)
 
 pub apart_by-second-requires : goal.apart_by-second-requires
-apart_by-second-requires c = let k = records-fit c.requires.node_of (read c.before.before.before.before.before) c.requires.firsts_of in record { vars_le_most_variables = (c.variable_count-vars.ensures.1, omega (arith, k, c.if-b-edge.true), omega (arith, c.u16_at-s.ensures.1)); leads = rw (c.u16_at-s.ensures.0, ← c.edge_at-edge.ensures.0) ((all-lead c.requires.node_of (read c.before.before.before.before.before) c.requires.firsts_of (held c.before.before.before.before.before.before.before)).each _ c.if-b-edge.true); rows_long = c.requires.rows_long }
+apart_by-second-requires c = let held : Held c.args.m.now c.args.g.now c.variable_count-vars.result c.body-bs.result.now c.body-nb.result.now = record { variables = c.variable_count-vars.ensures.0; records-in = c.body-bs.ensures; nodes-in = c.body-nb.ensures } in
+    let here : EdgeHere c.args.m.now c.args.g.now c.args.n c.body-eb.result.now c.node_field-edges.result c.loop-e.e c.loop-e.p = record { edges-in = c.body-eb.ensures; count = c.node_field-edges.ensures.0; within = c.loop-e-test.true; stands = c.loop-e.invariant.1 } in
+    let read : EdgeRead c.args.m.now c.args.g.now c.args.n c.body-cs.result.now c.body-eb.result.now c.args.firsts.now c.node_field-edges.result c.loop-e.e c.loop-e.p
+    c.edge_at-edge.result.at c.edge_at-edge.result.first c.edge_at-edge.result.branches = record { here = here; commands-in = c.body-cs.ensures; same = c.edge_at-edge.ensures.0; starting = c.edge_at-edge.ensures.1; branching = c.edge_at-edge.ensures.2 } in
+    let k = records-fit c.requires.node_of read c.requires.firsts_of in record { vars_le_most_variables = (c.variable_count-vars.ensures.1, omega (arith, k, c.if-b-edge.true), omega (arith, c.u16_at-s.ensures.1)); leads = rw (c.u16_at-s.ensures.0, ← c.edge_at-edge.ensures.0) ((all-lead c.requires.node_of read c.requires.firsts_of held).each _ c.if-b-edge.true); rows_long = c.requires.rows_long }
 
 pub returns-then-b-edge : goal.returns-then-b-edge
-returns-then-b-edge c = let b = edge-breaks c.requires.node_of (read c.before.before.before.before.before.before) c.requires.firsts_of _ c.requires.state_settled (held c.before.before.before.before.before.before.before.before) c.first_bad_branch-b.ensures c.if-b-edge.true in
-    let k = scan-found c.loop-e.invariant.0 c.loop-e-test.true b refl ∙ ap (first_bad _) c.node_field-edges.ensures.0 in record { holds_value = all-fails c.loop-e.invariant.0 c.loop-e-test.true b refl ∙ ap (all _) c.node_field-edges.ensures.0; next_value = (λ h. absurd (false≢true h)); second_value = (λ h. (second-found c.requires.node_of (read c.before.before.before.before.before.before) c.requires.firsts_of _ c.requires.state_settled (held c.before.before.before.before.before.before.before.before) c.first_bad_branch-b.ensures c.if-b-edge.true k refl c.u16_at-s.ensures.0 c.apart_by-second.ensures, branch-found c.requires.node_of (read c.before.before.before.before.before.before) c.requires.firsts_of _ c.requires.state_settled (held c.before.before.before.before.before.before.before.before) c.first_bad_branch-b.ensures c.if-b-edge.true k refl)); followed_to_2 = λ h. scan-followed c.loop-e.invariant.0 c.node_field-edges.ensures.0 c.loop-e.invariant.1 }
+returns-then-b-edge c = let held : Held c.args.m.now c.args.g.now c.variable_count-vars.result c.body-bs.result.now c.body-nb.result.now = record { variables = c.variable_count-vars.ensures.0; records-in = c.body-bs.ensures; nodes-in = c.body-nb.ensures } in
+    let here : EdgeHere c.args.m.now c.args.g.now c.args.n c.body-eb.result.now c.node_field-edges.result c.loop-e.e c.loop-e.p = record { edges-in = c.body-eb.ensures; count = c.node_field-edges.ensures.0; within = c.loop-e-test.true; stands = c.loop-e.invariant.1 } in
+    let read : EdgeRead c.args.m.now c.args.g.now c.args.n c.body-cs.result.now c.body-eb.result.now c.args.firsts.now c.node_field-edges.result c.loop-e.e c.loop-e.p
+    c.edge_at-edge.result.at c.edge_at-edge.result.first c.edge_at-edge.result.branches = record { here = here; commands-in = c.body-cs.ensures; same = c.edge_at-edge.ensures.0; starting = c.edge_at-edge.ensures.1; branching = c.edge_at-edge.ensures.2 } in
+    let b = edge-breaks c.requires.node_of read c.requires.firsts_of _ c.requires.state_settled held c.first_bad_branch-b.ensures c.if-b-edge.true in
+    let k = scan-found c.loop-e.invariant.0 c.loop-e-test.true b refl ∙ ap (first_bad _) c.node_field-edges.ensures.0 in record { holds_value = all-fails c.loop-e.invariant.0 c.loop-e-test.true b refl ∙ ap (all _) c.node_field-edges.ensures.0; next_value = (λ h. absurd (false≢true h)); second_value = (λ h. (second-found c.requires.node_of read c.requires.firsts_of _ c.requires.state_settled held c.first_bad_branch-b.ensures c.if-b-edge.true k refl c.u16_at-s.ensures.0 c.apart_by-second.ensures, branch-found c.requires.node_of read c.requires.firsts_of _ c.requires.state_settled held c.first_bad_branch-b.ensures c.if-b-edge.true k refl)); followed_to_2 = λ h. scan-followed c.loop-e.invariant.0 c.node_field-edges.ensures.0 c.loop-e.invariant.1 }
 
 pub overflow_add-p-in-loop-e-2 : goal.overflow_add-p-in-loop-e-2
-overflow_add-p-in-loop-e-2 c = omega (arith, cursor c.before.before.before.before.before.before, c.edge_at-edge.ensures.3)
+overflow_add-p-in-loop-e-2 c =
+    let cursor : c.loop-e.p ≤ most_bytes = cursor-small c.requires.node_of c.loop-e.e c.node_field-edges.ensures.0 c.loop-e.invariant.0.within c.loop-e.invariant.1 in
+    omega (arith, cursor, c.edge_at-edge.ensures.3)
 
 pub loop-e-preserved : goal.loop-e-preserved
 loop-e-preserved c =
-    let a = edge-passes c.requires.node_of (read c.before.before.before.before) c.requires.firsts_of _ c.requires.state_settled (held c.before.before.before.before.before.before) c.first_bad_branch-b.ensures c.if-b-edge.false in
-    (scan-next c.loop-e.invariant.0 c.loop-e-test.true a refl, next-stands c.requires.node_of (read c.before.before.before.before))
+    let held : Held c.args.m.now c.args.g.now c.variable_count-vars.result c.body-bs.result.now c.body-nb.result.now = record { variables = c.variable_count-vars.ensures.0; records-in = c.body-bs.ensures; nodes-in = c.body-nb.ensures } in
+    let here : EdgeHere c.args.m.now c.args.g.now c.args.n c.body-eb.result.now c.node_field-edges.result c.loop-e.e c.loop-e.p = record { edges-in = c.body-eb.ensures; count = c.node_field-edges.ensures.0; within = c.loop-e-test.true; stands = c.loop-e.invariant.1 } in
+    let read : EdgeRead c.args.m.now c.args.g.now c.args.n c.body-cs.result.now c.body-eb.result.now c.args.firsts.now c.node_field-edges.result c.loop-e.e c.loop-e.p
+    c.edge_at-edge.result.at c.edge_at-edge.result.first c.edge_at-edge.result.branches = record { here = here; commands-in = c.body-cs.ensures; same = c.edge_at-edge.ensures.0; starting = c.edge_at-edge.ensures.1; branching = c.edge_at-edge.ensures.2 } in
+    let a = edge-passes c.requires.node_of read c.requires.firsts_of _ c.requires.state_settled held c.first_bad_branch-b.ensures c.if-b-edge.false in
+    (scan-next c.loop-e.invariant.0 c.loop-e-test.true a refl, next-stands c.requires.node_of read)
 
 -- the cursor is past the last edge
 pub returns : goal.returns
 returns c = let q : c.loop-e.e ≡ c.node_field-edges.result = omega (arith, c.loop-e.invariant.0.within) in record { holds_value = all_pass c.loop-e.invariant.0 c.loop-e-test.false ∙ ap (all _) c.node_field-edges.ensures.0; next_value = (λ h. place-over _ _ _ (c.loop-e.invariant.1 ∙ ap (edge_at _ _ _) (q ∙ c.node_field-edges.ensures.0))); second_value = (λ h. absurd (false≢true (sym h))); followed_to_2 = λ h. absurd (false≢true (sym h)) }
 
 pub overflow_add-p : goal.overflow_add-p
-overflow_add-p c = omega (arith, successor-near c)
+overflow_add-p c =
+    let cursor : c.loop-e.p ≤ most_bytes = cursor-small c.requires.node_of c.loop-e.e c.node_field-edges.ensures.0 c.loop-e.invariant.0.within c.loop-e.invariant.1 in
+    let successor-near : c.loop-e.p + 2 + 2 * c.first_bad_branch-b.result < 2 ^ 40 = omega (arith, cursor, c.if-b-edge.true, c.edge_at-edge.ensures.3) in
+    omega (arith, successor-near)
 
 pub overflow_mul-b : goal.overflow_mul-b
-overflow_mul-b c = omega (arith, successor-near c)
+overflow_mul-b c =
+    let cursor : c.loop-e.p ≤ most_bytes = cursor-small c.requires.node_of c.loop-e.e c.node_field-edges.ensures.0 c.loop-e.invariant.0.within c.loop-e.invariant.1 in
+    let successor-near : c.loop-e.p + 2 + 2 * c.first_bad_branch-b.result < 2 ^ 40 = omega (arith, cursor, c.if-b-edge.true, c.edge_at-edge.ensures.3) in
+    omega (arith, successor-near)
 
 pub overflow_add-p-then-b-edge : goal.overflow_add-p-then-b-edge
-overflow_add-p-then-b-edge c = omega (arith, successor-near c)
+overflow_add-p-then-b-edge c =
+    let cursor : c.loop-e.p ≤ most_bytes = cursor-small c.requires.node_of c.loop-e.e c.node_field-edges.ensures.0 c.loop-e.invariant.0.within c.loop-e.invariant.1 in
+    let successor-near : c.loop-e.p + 2 + 2 * c.first_bad_branch-b.result < 2 ^ 40 = omega (arith, cursor, c.if-b-edge.true, c.edge_at-edge.ensures.3) in
+    omega (arith, successor-near)
 
 pub u16_at-s-requires : goal.u16_at-s-requires
-u16_at-s-requires c = omega (arith, successor-near c)
+u16_at-s-requires c =
+    let cursor : c.loop-e.p ≤ most_bytes = cursor-small c.requires.node_of c.loop-e.e c.node_field-edges.ensures.0 c.loop-e.invariant.0.within c.loop-e.invariant.1 in
+    let successor-near : c.loop-e.p + 2 + 2 * c.first_bad_branch-b.result < 2 ^ 40 = omega (arith, cursor, c.if-b-edge.true, c.edge_at-edge.ensures.3) in
+    omega (arith, successor-near)

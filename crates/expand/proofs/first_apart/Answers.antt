@@ -1,4 +1,3 @@
-use Prim.Native.Nat.{◌-◌}
 use Rattle.folder.proofs.ScanLaws.{scan-start, scan-next, scan-found, scan-over}
 use Rattle.expand.proofs.first_apart.Goals as goal
 

@@ -11,4 +11,4 @@ reads_in-requires c =
 
 pub returns : goal.returns
 returns c = λ is.
-    label-tested _ _ _ _ _ _ c.u16_in-e.ensures.0 _ _ c.u16_in.ensures.0 (back c.signed_of-label.type-inv ∙ c.signed_of-label.ensures) is c.has_bit-tracked.ensures c.reads_in.ensures
+    label-tested _ _ _ _ _ _ c.u16_in-e.ensures.0 _ _ c.u16_in.ensures.0 (back c.signed_of-label.type_inv ∙ c.signed_of-label.ensures) is c.has_bit-tracked.ensures c.reads_in.ensures

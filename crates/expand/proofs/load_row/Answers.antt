@@ -1,4 +1,4 @@
-use Prim.Native.Nat.{ℕ, ◌+◌, ◌-◌}
+use Prim.Native.Nat.{ℕ, ◌+◌}
 use mathlib.Core.Path.{refl, ap, ◌∙◌}
 use native.Mathlib.Omega.{arith}
 use Rattle.folder.specs.Contents.{signed_field}
@@ -9,7 +9,7 @@ use Rattle.expand.proofs.load_row.Goals as goal
 pub loop-v-preserved : goal.loop-v-preserved
 loop-v-preserved c =
     fill-next c.loop-v.invariant c.loop-v-test.true (omega arith)
-    (back c.signed_field.type-inv ∙ c.signed_field.ensures ∙ ap (λ (s : ℕ). signed_field s c.args.nb.now c.args.n (c.args.f + c.loop-v.v)) c.node_size-size.ensures.0)
+    (back c.signed_field.type_inv ∙ c.signed_field.ensures ∙ ap (λ (s : ℕ). signed_field s c.args.nb.now c.args.n (c.args.f + c.loop-v.v)) c.node_size-size.ensures.0)
 
 pub loop-v-init : goal.loop-v-init
 loop-v-init c = fill_start _ _ _

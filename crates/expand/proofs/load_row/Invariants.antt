@@ -5,7 +5,7 @@ use Rattle.graph.specs.Simulation.{node_size}
 use Rattle.expand.proofs.load_row.Given as goal
 
 abbrev pub invariant-loop-v : goal.invariant-loop-v
-invariant-loop-v l = Filled (λ i. signed_field (node_size l.vars) l.nb l.n (l.f + i)) l.vars l.size l.row l.v
+invariant-loop-v l = Filled (λ i. signed_field (node_size l.vars) l.nb l.n (l.f + i)) l.vars l.initial.row l.row l.v
 
 abbrev pub decreases-loop-v : goal.decreases-loop-v
 decreases-loop-v l = l.vars - l.v

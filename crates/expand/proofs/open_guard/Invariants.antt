@@ -10,7 +10,7 @@ use Rattle.expand.specs.Node.{LabelFlagged}
 use Rattle.expand.proofs.open_guard.Given as goal
 
 abbrev pub invariant-loop-c : goal.invariant-loop-c
-invariant-loop-c l = Scanned (λ i. is_known (truth_of (model_of l.m) (simulation_of (model_of l.m) l.g) l.n ((model_of l.m).guard i))) l.initial.known l.c × LabelFlagged l.m l.g l.n l.known × (length l.known ≡ length l.cs)
+invariant-loop-c l = Scanned (λ i. is_known (truth_of (model_of l.m) (simulation_of (model_of l.m) l.g) l.n ((model_of l.m).guard i))) l.commands l.c × LabelFlagged l.m l.g l.n l.known × (length l.known ≡ length l.initial.known)
 
 abbrev pub decreases-loop-c : goal.decreases-loop-c
-decreases-loop-c l = l.initial.known - l.c
+decreases-loop-c l = l.commands - l.c

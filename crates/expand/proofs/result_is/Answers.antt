@@ -10,4 +10,4 @@ value_in-requires c =
 
 pub returns : goal.returns
 returns c =
-    result-tested _ _ _ _ _ _ c.u16_in-e.ensures.0 _ c.u16_in.ensures.0 (back c.signed_of-concrete.type-inv ∙ c.signed_of-concrete.ensures) (back c.value_in.type-inv ∙ c.value_in.ensures) c.equal.ensures
+    result-tested _ _ _ _ _ _ c.u16_in-e.ensures.0 _ c.u16_in.ensures.0 (back c.signed_of-concrete.type_inv ∙ c.signed_of-concrete.ensures) (back c.value_in.type_inv ∙ c.value_in.ensures) c.equal.ensures

@@ -1,5 +1,3 @@
-use Prim.Native.Nat.{◌-◌}
-use Rattle.folder.specs.Contents.{field}
 use Rattle.folder.proofs.ScanLaws.{scan-start, scan-next, scan-found, scan-over}
 use Rattle.expand.proofs.unflagged_guard.Goals as goal
 

@@ -1,4 +1,3 @@
-use Prim.Native.Nat.{◌-◌}
 use native.Mathlib.Omega.{arith}
 use Rattle.finish.proofs.DoneLaws.{done-start, records-end, begins-at, begins-within, node-fits, done_next, done-over}
 use Rattle.finish.proofs.finish.Goals as goal

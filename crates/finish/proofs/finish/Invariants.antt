@@ -3,7 +3,7 @@ use Rattle.finish.proofs.DoneLaws.{Done}
 use Rattle.finish.proofs.finish.Given as goal
 
 abbrev pub invariant-loop-n : goal.invariant-loop-n
-invariant-loop-n l = Done l.m l.first l.nodes l.n l.nb
+invariant-loop-n l = Done l.m l.initial.nb l.nodes l.n l.nb
 
 abbrev pub decreases-loop-n : goal.decreases-loop-n
 decreases-loop-n l = l.nodes - l.n

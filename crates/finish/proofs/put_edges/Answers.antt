@@ -1,4 +1,3 @@
-use Prim.Native.Nat.{◌-◌}
 use native.Mathlib.Omega.{arith}
 use Rattle.finish.proofs.EdgeLaws.{walk_start, bytes-room, births-room, count_room, walk-next, walk-over}
 use Rattle.finish.proofs.put_edges.Goals as goal

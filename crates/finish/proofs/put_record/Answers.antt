@@ -1,4 +1,3 @@
-use Prim.Native.Nat.{◌-◌}
 use native.Mathlib.Omega.{arith}
 use Rattle.finish.proofs.FinalLaws.{going_start, going_next, going-over}
 use Rattle.finish.proofs.put_record.Goals as goal

@@ -4,7 +4,7 @@ use Rattle.finish.specs.Laid.{Laid}
 use Rattle.finish.proofs.put_successors.Given as goal
 
 abbrev pub invariant-loop-b : goal.invariant-loop-b
-invariant-loop-b l = (l.b ≤ l.initial.nb) × Laid l.x (tab l.b (λ i. l.count + i)) l.at l.nb
+invariant-loop-b l = (l.b ≤ l.count) × Laid l.at (tab l.b (λ i. l.x + i)) l.initial.nb l.nb
 
 abbrev pub decreases-loop-b : goal.decreases-loop-b
-decreases-loop-b l = l.initial.nb - l.b
+decreases-loop-b l = l.count - l.b

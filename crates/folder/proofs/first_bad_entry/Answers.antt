@@ -1,6 +1,4 @@
-use Prim.Native.Nat.{◌-◌}
 use Rattle.folder.proofs.ScanLaws.{scan-start, scan-next, scan-found, scan-over}
-use Rattle.folder.specs.Contents.{entry_ok}
 use Rattle.folder.proofs.first_bad_entry.Goals as goal
 
 pub loop-i-init : goal.loop-i-init

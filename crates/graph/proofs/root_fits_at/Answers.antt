@@ -5,4 +5,4 @@ use Rattle.graph.proofs.root_fits_at.Goals as goal
 
 pub returns : goal.returns
 returns c = λ m g h.
-    root_is h _ c.node_size-size.ensures.0 (back c.signed_field-concrete.type-inv ∙ c.signed_field-concrete.ensures) (back c.signed_field-initial.type-inv ∙ c.signed_field-initial.ensures) c.equal.ensures
+    root_is h _ c.node_size-size.ensures.0 (back c.signed_field-concrete.type_inv ∙ c.signed_field-concrete.ensures) (back c.signed_field-initial.type_inv ∙ c.signed_field-initial.ensures) c.equal.ensures

@@ -1,4 +1,3 @@
-use Prim.Native.Nat.{◌-◌}
 use borrow.Author.Rules.{rules}
 use Rattle.graph.proofs.EdgeLaws.{walk_start, walk-next, walk-found, walk-over}
 use Rattle.graph.proofs.walk_edges.Goals as goal

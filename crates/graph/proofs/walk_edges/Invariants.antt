@@ -8,7 +8,7 @@ use Rattle.graph.proofs.EdgeLaws.{Passed}
 use Rattle.graph.proofs.walk_edges.Given as goal
 
 abbrev pub invariant-loop-i : goal.invariant-loop-i
-invariant-loop-i l = ((m : List ℕ) → l.cs ≡ body m 3 → Passed (model_of m) l.nodes l.es «l.from» l.count l.i l.k) × (l.k ≤ length l.es)
+invariant-loop-i l = ((m : List ℕ) → l.cs ≡ body m 3 → Passed (model_of m) l.nodes l.es l.«from» l.count l.i l.k) × (l.k ≤ length l.es)
 
 abbrev pub decreases-loop-i : goal.decreases-loop-i
 decreases-loop-i l = l.count - l.i

@@ -1,6 +1,6 @@
+use Prim.Native.Nat.{ℕ}
 use mathlib.Core.Path.{sym, ◌∙◌}
 use mathlib.Core.List.{List}
-use borrow.Author.Rules.{rules}
 use borrow.Author.Tests.{not-true, not-false}
 use lib.ListN.{drop}
 use Rattle.folder.specs.Table.{Rule}
@@ -13,17 +13,8 @@ use Rattle.graph.proofs.RowLaws.{few-enough}
 use Rattle.graph_rules.proofs.NodeLaws.{firsts-of, reading-numbered}
 use Rattle.graph_rules.proofs.node_rules.Goals as goal
 
-abbrev rules : goal.Start → List Rule
-rules c = node_rules (model_of c.args.m.now) (simulation_of (model_of c.args.m.now) c.args.g.now) c.args.n
-
-
-abbrev covering : goal.Start → List Rule
-covering c = cover_rules c.args.m.now c.args.g.now c.args.n
-
-
-past1 : (c : goal.Else-not-a1) → Left (rules c.before.before.before.before.before.before.before.before) (drop 1 (rules c.before.before.before.before.before.before.before.before))
-past1 c = rule-holds (no-rule _) c.a1.ensures (not-false _ c.if-not-a1.false-raw)
-
+abbrev rules : List ℕ → List ℕ → ℕ → List Rule
+rules m g n = node_rules (model_of m) (simulation_of (model_of m) g) n
 
 pub a1-requires : goal.a1-requires
 a1-requires c = few-enough c.requires.node_of.model.folder c.requires.node_of.rows.folder c.requires.node_of.there
@@ -37,11 +28,12 @@ reading_rules-reading-requires c = record { node_of = c.requires.node_of; n_valu
 
 pub returns-then-reading-ne0 : goal.returns-then-reading-ne0
 returns-then-reading-ne0 c =
-    (first-rules (covering c.before.before.before.before.before.before.before.before.before.before.before) (reading-numbered _ _ _) c.reading_rules-reading.ensures.0 c.if-reading-ne0.true ∙ sym (past1 c.before.before.before).same, c.reading_rules-reading.ensures.1)
+    let past1 : Left (rules c.args.m.now c.args.g.now c.args.n) (drop 1 (rules c.args.m.now c.args.g.now c.args.n)) = rule-holds (no-rule _) c.a1.ensures (not-false _ c.if-not-a1.false-raw) in
+    (first-rules (cover_rules c.args.m.now c.args.g.now c.args.n) (reading-numbered _ _ _) c.reading_rules-reading.ensures.0 c.if-reading-ne0.true ∙ sym past1.same, c.reading_rules-reading.ensures.1)
 
 pub returns : goal.returns
 returns c =
-    (
-      c.ruling-2.ensures.0 ∙ c.cover_rules-number.ensures ∙ sym (then-rules (covering c.before.before.before.before.before.before.before.before.before.before.before.before.before) (reading-numbered _ _ _) c.reading_rules-reading.ensures.0 c.if-reading-ne0.false) ∙ sym (past1 c.before.before.before.before.before).same,
+    let past1 : Left (rules c.args.m.now c.args.g.now c.args.n) (drop 1 (rules c.args.m.now c.args.g.now c.args.n)) = rule-holds (no-rule _) c.a1.ensures (not-false _ c.if-not-a1.false-raw) in (
+      c.ruling-2.ensures.0 ∙ c.cover_rules-number.ensures ∙ sym (then-rules (cover_rules c.args.m.now c.args.g.now c.args.n) (reading-numbered _ _ _) c.reading_rules-reading.ensures.0 c.if-reading-ne0.false) ∙ sym past1.same,
       λ e. c.ruling-2.ensures.1 ∙ c.reading_rules-reading.ensures.1 c.if-reading-ne0.false,
     )

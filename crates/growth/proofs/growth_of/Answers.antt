@@ -7,11 +7,13 @@ returns-then-w-eq0 c = grows_none _ _ _ (sym c.requires.next_le_nodes.1 ∙ c.if
 
 pub lowest_waiting-n-requires : goal.lowest_waiting-n-requires
 lowest_waiting-n-requires c =
-    waiting-asked c.requires.held c.variable_count-vars.ensures.0 c.variable_count-vars.ensures.1 (λ z. c.if-w-eq0.false (c.requires.next_le_nodes.1 ∙ z)) c.requires.next_le_nodes.0 c.requires.next_right
+    let v = waiting-asked c.requires.held c.variable_count-vars.ensures.0 c.variable_count-vars.ensures.1 (λ z. c.if-w-eq0.false (c.requires.next_le_nodes.1 ∙ z)) c.requires.next_le_nodes.0 c.requires.next_right in
+    record { vars_le_most_variables = v.0; some_waits = v.1 }
 
 pub lowest_cover-c-requires : goal.lowest_cover-c-requires
 lowest_cover-c-requires c =
-    cover-asked c.requires.held c.variable_count-vars.ensures.0 c.variable_count-vars.ensures.1 (λ z. c.if-w-eq0.false (c.requires.next_le_nodes.1 ∙ z)) c.lowest_waiting-n.ensures c.requires.hint_right
+    let v = cover-asked c.requires.held c.variable_count-vars.ensures.0 c.variable_count-vars.ensures.1 (λ z. c.if-w-eq0.false (c.requires.next_le_nodes.1 ∙ z)) c.lowest_waiting-n.ensures c.requires.hint_right in
+    record { vars_le_most_variables = v.0; by_index = v.1 }
 
 pub returns-then-c-w : goal.returns-then-c-w
 returns-then-c-w c = grows-cover _ _ _ c.variable_count-vars.ensures.0 (λ z. c.if-w-eq0.false (c.requires.next_le_nodes.1 ∙ z)) c.lowest_waiting-n.ensures c.lowest_cover-c.ensures _ c.if-c-w.true
@@ -21,6 +23,3 @@ opening_of-requires c = record { held = c.requires.held; lent = c.requires.lent;
 
 pub returns : goal.returns
 returns c = grows-open _ _ _ c.variable_count-vars.ensures.0 (λ z. c.if-w-eq0.false (c.requires.next_le_nodes.1 ∙ z)) c.lowest_waiting-n.ensures c.lowest_cover-c.ensures _ c.if-c-w.false c.opening_of.ensures
-
--- left: lowest_waiting-n-requires: not a tuple of ['vars_le_most_variables', 'some_waits']
--- left: lowest_cover-c-requires: not a tuple of ['vars_le_most_variables', 'by_index']

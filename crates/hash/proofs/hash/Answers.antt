@@ -1,5 +1,4 @@
 use mathlib.Core.Path.{refl, ap, ◌∙◌, sym}
-use Prim.Native.Nat.{◌-◌}
 use native.Mathlib.Omega.{arith}
 use Rattle.hash.specs.Hash.{bits, hash_of}
 use Rattle.folder.proofs.Signed.{back16}

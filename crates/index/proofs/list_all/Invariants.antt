@@ -6,7 +6,7 @@ use Rattle.folder.proofs.ListLaws.{Listed}
 use Rattle.index.proofs.list_all.Given as goal
 
 abbrev pub invariant-loop-n : goal.invariant-loop-n
-invariant-loop-n l = Listed (listed_in l.vars l.nb) l.initial.listing l.initial.seen l.listing l.n l.count × (Seen l.vars l.nb l.n l.seen × (length l.seen ≡ length l.nodes))
+invariant-loop-n l = Listed (listed_in l.vars l.nb) l.nodes l.initial.listing l.listing l.n l.count × (Seen l.vars l.nb l.n l.seen × (length l.seen ≡ length l.initial.seen))
 
 abbrev pub decreases-loop-n : goal.decreases-loop-n
-decreases-loop-n l = l.initial.listing - l.n
+decreases-loop-n l = l.nodes - l.n

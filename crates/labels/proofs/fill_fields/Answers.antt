@@ -1,6 +1,4 @@
-use Prim.Native.Nat.{◌-◌}
 use native.Mathlib.Omega.{arith}
-use Rattle.folder.specs.Contents.{field4}
 use Rattle.folder.proofs.FillLaws.{fill_start, fill-next, fill-over}
 use Rattle.labels.proofs.fill_fields.Goals as goal
 

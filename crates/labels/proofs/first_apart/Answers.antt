@@ -1,6 +1,4 @@
-use Prim.Native.Nat.{◌-◌}
 use Rattle.folder.proofs.ScanLaws.{scan-start, scan-next, scan-found, scan-over}
-use Rattle.labels.specs.Agree.{agrees_at}
 use Rattle.labels.proofs.first_apart.Goals as goal
 
 pub loop-v-init : goal.loop-v-init

@@ -5,10 +5,10 @@ use Rattle.laguipy.proofs.CallLaws.{answer-refused, answer-accepted}
 use Rattle.laguipy.proofs.graph_check.Goals as goal
 
 pub summary_of-requires : goal.summary_of-requires
-summary_of-requires c = let valid = (accepted-valid c.args.model.now c.args.graph.now).0 (sym c.graph_outcome-o.ensures ∙ c.enum_told-1.given.1) in record { valid = valid.model; g_bound = valid.rows.folder.few }
+summary_of-requires c = let valid = (accepted-valid c.args.model.now c.args.graph.now).0 (sym c.graph_outcome-o.ensures ∙ c.in-Accepted.is) in record { valid = valid.model; g_bound = valid.rows.folder.few }
 
 pub returns-in-Refused : goal.returns-in-Refused
-returns-in-Refused c = sym (answer-refused c.args.model.now c.args.graph.now _ (sym c.graph_outcome-o.ensures ∙ c.o-1.given.1))
+returns-in-Refused c = sym (answer-refused c.args.model.now c.args.graph.now _ (sym c.graph_outcome-o.ensures ∙ c.in-Refused.is))
 
 pub returns-in-Accepted : goal.returns-in-Accepted
-returns-in-Accepted c = ap Accepted c.summary_of.ensures ∙ sym (answer-accepted c.args.model.now c.args.graph.now (sym c.graph_outcome-o.ensures ∙ c.enum_told-1.given.1))
+returns-in-Accepted c = ap Accepted c.summary_of.ensures ∙ sym (answer-accepted c.args.model.now c.args.graph.now (sym c.graph_outcome-o.ensures ∙ c.in-Accepted.is))

@@ -1,4 +1,3 @@
-use Prim.Native.Nat.{◌-◌}
 use mathlib.Core.Path.{refl}
 use Rattle.folder.proofs.FillLaws.{fill_start, fill-next, fill-over}
 use Rattle.lowering.proofs.fill_units.Goals as goal

@@ -1,4 +1,4 @@
-use Prim.Native.Nat.{◌<◌, ◌-◌}
+use Prim.Native.Nat.{◌<◌}
 use mathlib.Core.Path.{◌≡◌, ap, ◌∙◌}
 use native.Mathlib.Omega.{arith}
 use Rattle.model.specs.Model.{model_of}
@@ -8,10 +8,11 @@ use Rattle.lowering.specs.Sweeps.{nodes_of}
 use Rattle.sums.proofs.NodeLaws.{Parts, some-total, node-ready, node-small}
 use Rattle.lowering.proofs.NodeLaws.{from_in, node-value}
 use Rattle.lowering.proofs.SweepLaws.{sweep-start, sweep-next, sweep-over, still-over}
+use Rattle.lowering.proofs.sweep.Goals.{After-body-eb, After-begin_of-at, In-loop-n}
 use Rattle.lowering.proofs.sweep.Goals as goal
 
 -- What the code has read before the loop.
-parts : (c : goal.After-body-eb)
+parts : (c : After-body-eb)
     → Parts c.args.m.now c.args.g.now c.node_size-size.result c.total_of-d.result c.body-cs.result.now c.body-nb.result.now c.body-eb.result.now
 parts c = record {
   size_is = c.node_size-size.ensures.0 ∙ ap node_size c.variable_count.ensures.0;
@@ -21,69 +22,61 @@ parts c = record {
   edges = c.body-eb.ensures;
 }
 
-
--- The node that a turn sets, and its source.
-here : (c : goal.In-loop-n) → c.loop-n.n < nodes_of c.args.m.now c.args.g.now
+-- The node that a turn sets.
+here : (c : In-loop-n) → c.loop-n.n < nodes_of c.args.m.now c.args.g.now
 here c = omega (arith, c.node_count-nodes.ensures)
-
-
-from : (c : goal.After-source_of-from) → c.source_of-from.result < nodes_of c.args.m.now c.args.g.now
-from c = from_in c.requires.valid (parts c.before.before.before.before.before.before.before.before) (here c.before.before.before.before.before.before) c.field-kind.ensures.0 c.field-cover.ensures.0 c.source_of-from.ensures
-
 
 pub loop-n-init : goal.loop-n-init
 loop-n-init c = sweep-start c.requires.valid c.requires.round
 
 pub begin_of-at-requires : goal.begin_of-at-requires
-begin_of-at-requires c = omega (arith, here c.before.before.before, c.requires.starts.long)
+begin_of-at-requires c = omega (arith, here (goal.at.begin_of-at-requires c).In-loop-n, c.requires.starts.long)
 
 -- Where the node's edges start.
-starts : (c : goal.After-begin_of-at) → c.begin_of-at.result ≡ starts_at (model_of c.args.m.now) c.args.g.now c.loop-n.n
-starts c = c.begin_of-at.ensures ∙ c.requires.starts.is c.loop-n.n (here c.before.before.before.before)
-
+starts : (c : After-begin_of-at) → c.begin_of-at.result ≡ starts_at (model_of c.args.m.now) c.args.g.now c.loop-n.n
+starts c = c.begin_of-at.ensures ∙ c.requires.starts.is c.loop-n.n (omega (arith, c.node_count-nodes.ensures))
 
 pub best_of-best-requires : goal.best_of-best-requires
 best_of-best-requires c =
-    node-ready c.requires.valid (parts c.before.before.before.before.before.before) c.requires.tables (here c.before.before.before.before) (starts c) c.field-count.ensures.0 _ c.loop-n.invariant.round.long
+    node-ready c.requires.valid (parts (goal.at.best_of-best-requires c).After-body-eb) c.requires.tables (here (goal.at.best_of-best-requires c).In-loop-n) (starts (goal.at.best_of-best-requires c).After-begin_of-at) c.field-count.ensures.0 _ c.loop-n.invariant.round.long
 
 pub offset_bounds-row-from : goal.offset_bounds-row-from
-offset_bounds-row-from c = omega (arith, from c, c.loop-n.invariant.few)
+offset_bounds-row-from c = omega (arith, from_in c.requires.valid (parts (goal.at.offset_bounds-row-from c).After-body-eb) (here (goal.at.offset_bounds-row-from c).In-loop-n) c.field-kind.ensures.0 c.field-cover.ensures.0 c.source_of-from.ensures, c.loop-n.invariant.few)
 
 pub bounds-row-from : goal.bounds-row-from
-bounds-row-from c = omega (arith, from c.before, c.loop-n.invariant.round.long)
+bounds-row-from c = omega (arith, from_in c.requires.valid (parts (goal.at.bounds-row-from c).After-body-eb) (here (goal.at.bounds-row-from c).In-loop-n) c.field-kind.ensures.0 c.field-cover.ensures.0 c.source_of-from.ensures, c.loop-n.invariant.round.long)
 
 pub value_by-value-requires : goal.value_by-value-requires
-value_by-value-requires c =
-    (
-      omega (arith, c.total_of-d.ensures.0, some-total c.requires.valid),
-      c.total_of-d.ensures.1,
-      node-small c.requires.valid (parts c.before.before.before.before.before.before.before.before.before) c.requires.tables (here c.before.before.before.before.before.before.before) (starts c.before.before.before) c.field-count.ensures.0 _ c.best_of-best.ensures.0 c.loop-n.invariant.round,
-    )
+value_by-value-requires c = (
+  omega (arith, c.total_of-d.ensures.0, some-total c.requires.valid),
+  c.total_of-d.ensures.1,
+  node-small c.requires.valid (parts (goal.at.value_by-value-requires c).After-body-eb) c.requires.tables (here (goal.at.value_by-value-requires c).In-loop-n) (starts (goal.at.value_by-value-requires c).After-begin_of-at) c.field-count.ensures.0 _ c.best_of-best.ensures.0 c.loop-n.invariant.round,
+)
 
 pub offset_bounds-row-n : goal.offset_bounds-row-n
-offset_bounds-row-n c = omega (arith, here c.before.before.before.before.before.before.before.before, c.loop-n.invariant.few)
+offset_bounds-row-n c = omega (arith, here (goal.at.offset_bounds-row-n c).In-loop-n, c.loop-n.invariant.few)
 
 pub bounds-row-n : goal.bounds-row-n
-bounds-row-n c = omega (arith, here c.before.before.before.before.before.before.before.before.before, c.loop-n.invariant.round.long)
+bounds-row-n c = omega (arith, here (goal.at.bounds-row-n c).In-loop-n, c.loop-n.invariant.round.long)
 
 pub offset_bounds-row-n-in-loop-n : goal.offset_bounds-row-n-in-loop-n
-offset_bounds-row-n-in-loop-n c = omega (arith, here c.before.before.before.before.before.before.before.before.before.before, c.loop-n.invariant.few)
+offset_bounds-row-n-in-loop-n c = omega (arith, here (goal.at.offset_bounds-row-n-in-loop-n c).In-loop-n, c.loop-n.invariant.few)
 
 pub bounds-row-n-in-loop-n : goal.bounds-row-n-in-loop-n
-bounds-row-n-in-loop-n c = omega (arith, here c.before.before.before.before.before.before.before.before.before.before, c.loop-n.invariant.round.long)
+bounds-row-n-in-loop-n c = omega (arith, here (goal.at.bounds-row-n-in-loop-n c).In-loop-n, c.loop-n.invariant.round.long)
 
 pub overflow_add-n : goal.overflow_add-n
-overflow_add-n c = omega (arith, here c.before.before.before.before.before.before.before.before.before.before, c.loop-n.invariant.few)
+overflow_add-n c = omega (arith, here (goal.at.overflow_add-n c).In-loop-n, c.loop-n.invariant.few)
 
 pub loop-n-smaller : goal.loop-n-smaller
 loop-n-smaller c = omega (arith, c.loop-n-test.true)
 
 pub loop-n-preserved : goal.loop-n-preserved
 loop-n-preserved c =
-    let p = parts c.before.before.before.before.before.before.before.before.before.before.before.before in
-    let h = here c.before.before.before.before.before.before.before.before.before.before in
+    let p = parts (goal.at.loop-n-preserved c).After-body-eb in
+    let h = here (goal.at.loop-n-preserved c).In-loop-n in
     sweep-next c.requires.valid c.loop-n.invariant h
-    (node-value c.requires.valid p c.requires.tables h (starts c.before.before.before.before.before.before) c.field-count.ensures.0 _ c.best_of-best.ensures.0 c.field-kind.ensures.0 c.field-cover.ensures.0 c.source_of-from.ensures c.value_by-value.ensures) c.still-same.ensures
+    (node-value c.requires.valid p c.requires.tables h (starts (goal.at.loop-n-preserved c).After-begin_of-at) c.field-count.ensures.0 _ c.best_of-best.ensures.0 c.field-kind.ensures.0 c.field-cover.ensures.0 c.source_of-from.ensures c.value_by-value.ensures) c.still-same.ensures
 
 pub returns : goal.returns
 returns c = record { value = still-over c.requires.valid c.loop-n.invariant c.node_count-nodes.ensures c.loop-n-test.false; row_after = sweep-over c.requires.valid c.loop-n.invariant c.node_count-nodes.ensures c.loop-n-test.false }

@@ -3,7 +3,7 @@ use Rattle.lowering.proofs.SweepLaws.{Sweeping}
 use Rattle.lowering.proofs.sweep.Given as goal
 
 abbrev pub invariant-loop-n : goal.invariant-loop-n
-invariant-loop-n l = Sweeping l.m l.g l.size l.row l.n l.same
+invariant-loop-n l = Sweeping l.m l.g l.initial.row l.row l.n l.same
 
 abbrev pub decreases-loop-n : goal.decreases-loop-n
-decreases-loop-n l = l.d - l.n
+decreases-loop-n l = l.nodes - l.n

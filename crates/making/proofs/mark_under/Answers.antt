@@ -1,4 +1,3 @@
-use Prim.Native.Nat.{◌-◌}
 use native.Mathlib.Omega.{arith}
 use Rattle.put.proofs.ChangeLaws.{change-start, change-next, change-over}
 use Rattle.making.proofs.Marks.{mark-as}

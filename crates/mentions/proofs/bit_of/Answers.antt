@@ -12,6 +12,5 @@ small w i h =
     let p : 0 < 2 ^ i = pow_pos i in
     omega arith
 
-
 pub returns : goal.returns
 returns c = rw (one-mul (2 ^ c.args.i)) (mod-eq_of_lt (small 16 c.args.i c.requires))

@@ -1,4 +1,3 @@
-use Prim.Native.Nat.{◌-◌}
 use native.Mathlib.Omega.{arith}
 use Rattle.folder.proofs.FillLaws.{fill_start, fill-next, fill-over}
 use Rattle.expressions.specs.Entries.{entries_of}

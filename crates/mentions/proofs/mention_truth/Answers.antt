@@ -6,20 +6,20 @@ use Rattle.mentions.proofs.mention_truth.Goals as goal
 
 pub returns-in-Compare : goal.returns-in-Compare
 returns-in-Compare c =
-    c.union_of.ensures ∙ ap₂ union c.set_at.ensures c.set_at-in-Compare.ensures ∙ truth-from (entries_of c.args.x.now) c.requires.written c.args.e c.args.masks.now c.requires.masked _ c.truth_form-f.ensures.0 c.f-1.given.1
+    c.union_of.ensures ∙ ap₂ union c.set_at.ensures c.set_at-in-Compare.ensures ∙ truth-from (entries_of c.args.x.now) c.requires.written c.args.e c.args.masks.now c.requires.masked _ c.truth_form-f.ensures.0 c.in-Compare.is
 
 pub returns-in-Not : goal.returns-in-Not
 returns-in-Not c =
-    c.set_at-in-Not.ensures ∙ truth-from (entries_of c.args.x.now) c.requires.written c.args.e c.args.masks.now c.requires.masked _ c.truth_form-f.ensures.0 c.f-in-Not-1.given.1
+    c.set_at-in-Not.ensures ∙ truth-from (entries_of c.args.x.now) c.requires.written c.args.e c.args.masks.now c.requires.masked _ c.truth_form-f.ensures.0 c.in-Not.is
 
 pub returns-in-Joined : goal.returns-in-Joined
 returns-in-Joined c =
-    c.union_of-in-Joined.ensures ∙ ap₂ union c.set_at-in-Joined.ensures c.set_at-in-Joined-2.ensures ∙ truth-from (entries_of c.args.x.now) c.requires.written c.args.e c.args.masks.now c.requires.masked _ c.truth_form-f.ensures.0 c.f-in-Joined-1.given.1
+    c.union_of-in-Joined.ensures ∙ ap₂ union c.set_at-in-Joined.ensures c.set_at-in-Joined-2.ensures ∙ truth-from (entries_of c.args.x.now) c.requires.written c.args.e c.args.masks.now c.requires.masked _ c.truth_form-f.ensures.0 c.in-Joined.is
 
 pub returns-in-Always : goal.returns-in-Always
 returns-in-Always c =
-    truth-from (entries_of c.args.x.now) c.requires.written c.args.e c.args.masks.now c.requires.masked _ c.truth_form-f.ensures.0 c.enum_told-1.given.1
+    truth-from (entries_of c.args.x.now) c.requires.written c.args.e c.args.masks.now c.requires.masked _ c.truth_form-f.ensures.0 c.in-Always.is
 
 pub returns-in-NoTruth : goal.returns-in-NoTruth
 returns-in-NoTruth c =
-    truth-from (entries_of c.args.x.now) c.requires.written c.args.e c.args.masks.now c.requires.masked _ c.truth_form-f.ensures.0 c.enum_told-in-NoTruth-1.given.1
+    truth-from (entries_of c.args.x.now) c.requires.written c.args.e c.args.masks.now c.requires.masked _ c.truth_form-f.ensures.0 c.in-NoTruth.is

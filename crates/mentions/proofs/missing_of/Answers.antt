@@ -1,9 +1,7 @@
-use Prim.Native.Nat.{◌-◌}
 use mathlib.Core.Path.{sym, ap, ◌∙◌}
 use mathlib.Core.Bool.{not}
 use native.Mathlib.Omega.{arith}
 use Rattle.folder.proofs.ScanLaws.{scan-start, scan-next}
-use Rattle.expressions.specs.Mentions.{is_free}
 use Rattle.mentions.proofs.Missing.{first-free, none_free}
 use Rattle.mentions.proofs.missing_of.Goals as goal
 

@@ -1,6 +1,4 @@
-use Prim.Native.Nat.{◌-◌}
 use Rattle.folder.proofs.ScanLaws.{scan-start, scan-next, scan-found, scan-over}
-use Rattle.model.specs.Rules.{records_fit}
 use Rattle.model.proofs.first_bad_records.Goals as goal
 
 pub loop-e-init : goal.loop-e-init

@@ -8,4 +8,4 @@ use Rattle.model.proofs.variable_count.Goals as goal
 pub returns : goal.returns
 unfolding count_of
 returns c =
-    (c.count_of.ensures ∙ ap (count_of 6) c.body.ensures, omega (arith, c.count_of.ensures, c.body.type-inv, div-le_self (length c.body.result.now) 6))
+    (c.count_of.ensures ∙ ap (count_of 6) c.body.ensures, omega (arith, c.count_of.ensures, c.body.type_inv, div-le_self (length c.body.result.now) 6))

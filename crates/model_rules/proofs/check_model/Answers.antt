@@ -2,10 +2,10 @@ use Rattle.model_rules.proofs.CheckLaws.{folder-right, then-content, refused-so}
 use Rattle.model_rules.proofs.check_model.Goals as goal
 
 pub check_entries-requires : goal.check_entries-requires
-check_entries-requires c = folder-right _ c.check_folder-o.ensures c.enum_told-1.given.1
+check_entries-requires c = folder-right _ c.check_folder-o.ensures c.in-Accepted.is
 
 pub returns-in-Accepted : goal.returns-in-Accepted
-returns-in-Accepted c = then-content _ c.check_folder-o.ensures c.enum_told-1.given.1 c.check_entries.ensures
+returns-in-Accepted c = then-content _ c.check_folder-o.ensures c.in-Accepted.is c.check_entries.ensures
 
 pub returns-in-Refused : goal.returns-in-Refused
-returns-in-Refused c = refused-so _ c.check_folder-o.ensures c.o-1.given.1
+returns-in-Refused c = refused-so _ c.check_folder-o.ensures c.in-Refused.is

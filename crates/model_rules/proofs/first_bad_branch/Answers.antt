@@ -1,9 +1,7 @@
-use Prim.Native.Nat.{◌-◌}
 use mathlib.Core.Path.{ap, ◌∙◌}
 use native.Mathlib.Omega.{arith}
 use Rattle.folder.specs.Contents.{count_of}
 use Rattle.folder.proofs.ScanLaws.{scan-start, scan-next, scan-found, scan-over}
-use Rattle.model.specs.Rules.{branch_fits}
 use Rattle.model_rules.proofs.BodyLaws.{branch_in}
 use Rattle.model_rules.proofs.first_bad_branch.Goals as goal
 

@@ -1,6 +1,4 @@
-use Prim.Native.Nat.{◌-◌}
 use Rattle.folder.proofs.ScanLaws.{scan-start, scan-next, scan-found, scan-over}
-use Rattle.model.specs.Rules.{command_fits}
 use Rattle.model_rules.proofs.BodyLaws.{command-in}
 use Rattle.model_rules.proofs.first_bad_command.Goals as goal
 

@@ -1,4 +1,3 @@
-use Prim.Native.Nat.{◌-◌}
 use mathlib.Core.Path.{refl}
 use native.Mathlib.Nat.{le_of_lt}
 use Rattle.mdp.proofs.SumLoop.{sum-start, sum-next, sum_over}

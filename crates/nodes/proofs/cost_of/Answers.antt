@@ -1,4 +1,3 @@
-use Prim.Native.Nat.{◌-◌}
 use native.Mathlib.Omega.{arith}
 use Rattle.nodes.proofs.Walk.{costs-start, costs-next, costs-over}
 use Rattle.nodes.proofs.cost_of.Goals as goal

@@ -6,5 +6,5 @@ use Rattle.nodes.proofs.is_on.Goals as goal
 pub returns : goal.returns
 unfolding on_in
 returns c =
-    let e = back c.value_at.type-inv ∙ c.value_at.ensures in
+    let e = back c.value_at.type_inv ∙ c.value_at.ensures in
     cc

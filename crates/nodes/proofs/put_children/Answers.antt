@@ -1,17 +1,20 @@
-use Prim.Native.Nat.{◌-◌}
 use native.Mathlib.Omega.{arith}
 use Rattle.nodes.proofs.Walk.{step_start, step-next, records-within, children-within, bytes-within}
 use Rattle.nodes.proofs.BroodLaws.{brood-start, brood-next, brood-over, fits-as}
 use Rattle.nodes.proofs.put_children.Goals as goal
 
 pub put_family-requires : goal.put_family-requires
-put_family-requires c = record { vars_nonzero = (
-        c.requires.vars_nonzero.0,
-        c.requires.vars_nonzero.1,
-        omega (arith, records-within c.loop-c.invariant.2 c.field-branches.ensures.0 c.is_on.ensures c.if_on-count.ensures.0 _ c.loop-c-test.true _ c.requires.vars_nonzero.3, c.if_on-count.ensures.1),
-        omega (arith, children-within c.loop-c.invariant.2 c.field-branches.ensures.0 c.is_on.ensures c.if_on-count.ensures.0 _ c.loop-c-test.true, c.requires.commands_bound),
-        c.requires.vars_nonzero.4,
-      ); count_in_bounds = bytes-within c.loop-c.invariant.2 c.field-branches.ensures.0 c.is_on.ensures c.if_on-count.ensures.0 _ c.loop-c-test.true _ _ (omega (arith, c.requires.commands_in_bounds, c.loop-c.invariant.1.stays.long)); all_fit = fits-as _ _ _ c.loop-c.invariant.2.records (omega (arith, c.field-branches.ensures.0, c.if_on-count.ensures.1)) (c.requires.brood_fits.all _ c.loop-c-test.true) }
+put_family-requires c = record {
+  vars_nonzero = (
+    c.requires.vars_nonzero.0,
+    c.requires.vars_nonzero.1,
+    omega (arith, records-within c.loop-c.invariant.2 c.field-branches.ensures.0 c.is_on.ensures c.if_on-count.ensures.0 _ c.loop-c-test.true _ c.requires.vars_nonzero.3, c.if_on-count.ensures.1),
+    omega (arith, children-within c.loop-c.invariant.2 c.field-branches.ensures.0 c.is_on.ensures c.if_on-count.ensures.0 _ c.loop-c-test.true, c.requires.commands_bound),
+    c.requires.vars_nonzero.4,
+  );
+  count_in_bounds = bytes-within c.loop-c.invariant.2 c.field-branches.ensures.0 c.is_on.ensures c.if_on-count.ensures.0 _ c.loop-c-test.true _ _ (omega (arith, c.requires.commands_in_bounds, c.loop-c.invariant.1.stays.long));
+  all_fit = fits-as _ _ _ c.loop-c.invariant.2.records (omega (arith, c.field-branches.ensures.0, c.if_on-count.ensures.1)) (c.requires.brood_fits.all _ c.loop-c-test.true);
+}
 
 pub overflow_add-record : goal.overflow_add-record
 overflow_add-record c = omega (arith, records-within c.loop-c.invariant.2 c.field-branches.ensures.0 c.is_on.ensures c.if_on-count.ensures.0 _ c.loop-c-test.true _ c.requires.vars_nonzero.3)

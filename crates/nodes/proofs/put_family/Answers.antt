@@ -1,4 +1,3 @@
-use Prim.Native.Nat.{◌-◌}
 use native.Mathlib.Omega.{arith}
 use Rattle.nodes.proofs.NodeLaws.{family-none, family-next, family-over, family-room}
 use Rattle.nodes.proofs.put_family.Goals as goal

@@ -1,4 +1,3 @@
-use Prim.Native.Nat.{◌-◌}
 use native.Mathlib.Omega.{arith}
 use Rattle.nodes.proofs.NodeLaws.{node-start, node-next, node_over}
 use Rattle.nodes.proofs.put_node.Goals as goal

@@ -8,12 +8,15 @@ use Rattle.held.proofs.FieldLaws.{union-field}
 use Rattle.nodes.proofs.track_all.Goals as goal
 
 pub put_field-requires : goal.put_field-requires
-put_field-requires c = record { vars_le_most_variables = (
+put_field-requires c = record {
+  vars_le_most_variables = (
     c.requires.vars_le_most_variables.0,
     c.requires.vars_le_most_variables.1,
     omega arith,
     rw c.union_of.ensures (union-field c.field-s.result c.args.t c.field-s.ensures.1 c.requires.vars_le_most_variables.2),
-  ); whole = c.requires.whole }
+  );
+  whole = c.requires.whole;
+}
 
 pub returns : goal.returns
 returns c =

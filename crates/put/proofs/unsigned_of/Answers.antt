@@ -16,7 +16,6 @@ added c =
     let b = back_fits c.ranges.z in
     c.add.ensures ∙ ap (λ (z : ℤ). z +ℤ pos 65536) b ∙ neg_sum _ c.requires (sym (c.less.ensures ∙ ap (λ (z : ℤ). lt_z z (pos 0)) b) ∙ c.if-less.true)
 
-
 pub overflow_cast-result : goal.overflow_cast-result
 overflow_cast-result c = cast_ok (small _ c.requires) (added c)
 
@@ -24,7 +23,6 @@ kept : (c : goal.Else-less) → c.args.z ≡ pos (unsigned c.args.z)
 kept c =
     let b = back_fits c.ranges.z in
     not_neg _ c.requires (sym (c.less.ensures ∙ ap (λ (z : ℤ). lt_z z (pos 0)) b) ∙ c.if-less.false)
-
 
 pub overflow_cast-result-else-less : goal.overflow_cast-result-else-less
 overflow_cast-result-else-less c = cast_ok (small _ c.requires) (kept c)

@@ -1,4 +1,5 @@
 use mathlib.Core.Path.{◌∙◌}
+use native.Mathlib.Omega.{arith}
 use lib.IntN.{◌*ℤ◌}
 use Rattle.whole.proofs.Fits.{mul-near}
 use Rattle.ranges.specs.Products.{end_product}
@@ -9,22 +10,24 @@ use Rattle.ranges.proofs.end_product.Goals as goal
 pub returns-in-0 : goal.returns-in-0
 unfolding end_product
 returns-in-0 c =
-    rw c.in-0.keys1 (of-ends ◌*ℤ◌ c.args.a.low c.args.b.low c.mul.ok c.mul.ensures c.struct_told-1.given.0.1 c.struct_told-in-0-1.given.0.1)
+    rw c.in-0.is (of-ends ◌*ℤ◌ c.args.a.low c.args.b.low c.mul.type_inv c.mul.ensures (omega (arith, c.requires.0.low)) (omega (arith, c.requires.1.low)))
 
 pub returns-in-1 : goal.returns-in-1
 unfolding end_product
 returns-in-1 c =
-    rw c.in-1.keys2 (of-ends ◌*ℤ◌ c.args.a.low c.args.b.high c.mul-in-1.ok c.mul-in-1.ensures c.struct_told-in-1-1.given.0.1 c.struct_told-in-1-2-1.given.1.0.1)
+    rw c.in-1.is
+    (of-ends ◌*ℤ◌ c.args.a.low c.args.b.high c.mul-in-1.type_inv c.mul-in-1.ensures (omega (arith, c.requires.0.low)) (omega (arith, c.requires.1.high)))
 
 pub returns-in-2 : goal.returns-in-2
 unfolding end_product
 returns-in-2 c =
-    rw c.in-2.keys3 (of-ends ◌*ℤ◌ c.args.a.high c.args.b.low c.mul-in-2.ok c.mul-in-2.ensures c.struct_told-in-2-1.given.1.0.1 c.struct_told-in-2-2-1.given.0.1)
+    rw c.in-2.is
+    (of-ends ◌*ℤ◌ c.args.a.high c.args.b.low c.mul-in-2.type_inv c.mul-in-2.ensures (omega (arith, c.requires.0.high)) (omega (arith, c.requires.1.low)))
 
 pub returns-in_default : goal.returns-in_default
 returns-in_default c =
-    of-ends ◌*ℤ◌ c.args.a.high c.args.b.high c.mul-in_default.ok c.mul-in_default.ensures c.struct_told-in_default-1.given.1.0.1 c.struct_told-in_default-2-1.given.1.0.1
-    ∙ last-product c.args.a c.args.b c.args.i c.in_default.rest.0.0.1 c.in_default.rest.0.1 c.in_default.rest.1
+    of-ends ◌*ℤ◌ c.args.a.high c.args.b.high c.mul-in_default.type_inv c.mul-in_default.ensures (omega (arith, c.requires.0.high)) (omega (arith, c.requires.1.high))
+    ∙ last-product c.args.a c.args.b c.args.i (omega arith) (omega arith) (omega arith)
 
 pub mul-requires : goal.mul-requires
 mul-requires c = search mul-near

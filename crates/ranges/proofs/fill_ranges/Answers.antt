@@ -2,7 +2,6 @@ use mathlib.Core.Path.{◌∙◌, ap}
 use Rattle.folder.specs.Scan.{first_bad}
 use Rattle.folder.proofs.Signed.{back}
 use Rattle.folder.proofs.ScanLaws.{scan-over}
-use Prim.Native.Nat.{◌-◌}
 use native.Mathlib.Omega.{arith}
 use Rattle.ranges.proofs.FillLaws.{fill_start, fill-ranged, fill-found, fill-next}
 use Rattle.ranges.proofs.fill_ranges.Goals as goal
@@ -19,20 +18,8 @@ loop-e-preserved c =
     fill-next c.loop-e.invariant c.loop-e-test.true c.range_of-r.ensures c.in_limits.ensures (omega arith) (omega arith)
     (back c.struct_told-1.given.0.1) (back c.struct_told-then-in_limits-1.given.1.0.1) c.if-in_limits.true
 
-pub shape_of-lows-else-in_limits : goal.shape_of-lows-else-in_limits
-shape_of-lows-else-in_limits c = c.loop-e.invariant.low-row.long
-
-pub shape_of-highs-else-in_limits : goal.shape_of-highs-else-in_limits
-shape_of-highs-else-in_limits c = c.loop-e.invariant.high-row.long
-
 pub returns-else-in_limits : goal.returns-else-in_limits
 returns-else-in_limits c = record { value = fill-found c.loop-e.invariant c.loop-e-test.true c.range_of-r.ensures c.in_limits.ensures c.if-in_limits.false ∙ ap (first_bad _) c.count_of-n.ensures; lows_after = c.loop-e.invariant.low-row.is; highs_after = c.loop-e.invariant.high-row.is }
-
-pub shape_of-lows : goal.shape_of-lows
-shape_of-lows c = c.loop-e.invariant.low-row.long
-
-pub shape_of-highs : goal.shape_of-highs
-shape_of-highs c = c.loop-e.invariant.high-row.long
 
 pub returns : goal.returns
 returns c = record { value = scan-over c.loop-e.invariant.scanned c.loop-e-test.false ∙ ap (first_bad _) c.count_of-n.ensures; lows_after = c.loop-e.invariant.low-row.is; highs_after = c.loop-e.invariant.high-row.is }

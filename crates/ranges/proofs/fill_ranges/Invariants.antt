@@ -3,7 +3,7 @@ use Rattle.ranges.proofs.FillLaws.{Filling}
 use Rattle.ranges.proofs.fill_ranges.Given as goal
 
 abbrev pub invariant-loop-e : goal.invariant-loop-e
-invariant-loop-e l = Filling l.x l.y l.n l.initial.lows l.initial.highs l.lows l.highs l.e
+invariant-loop-e l = Filling l.x l.y l.initial.lows l.initial.highs l.n l.lows l.highs l.e
 
 abbrev pub decreases-loop-e : goal.decreases-loop-e
-decreases-loop-e l = l.initial.highs - l.e
+decreases-loop-e l = l.n - l.e

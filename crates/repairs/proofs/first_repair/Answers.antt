@@ -1,4 +1,3 @@
-use Prim.Native.Nat.{◌-◌}
 use Rattle.repairs.proofs.Rereading.{standing-again, parent-again, settled-again}
 use Rattle.repairs.proofs.Searching.{visit-start, visit-there, visit-mended, visit-next, visit-found, visit-over}
 use Rattle.repairs.proofs.first_repair.Goals as goal
@@ -12,7 +11,8 @@ visit-r-requires c = record { standing = standing-again c.loop-n.invariant.rerea
 
 pub returns-then-is_move : goal.returns-then-is_move
 returns-then-is_move c =
-    visit-found c.loop-n.invariant c.requires.mark_right c.requires.low_le_high.1 c.visit-r.ensures.reread c.visit-r.ensures.result_value c.is_move.ensures c.visit-r.ensures.marks_after c.loop-n-test.true c.if-is_move.true
+    let v = visit-found c.loop-n.invariant c.requires.mark_right c.requires.low_le_high.1 c.visit-r.ensures.reread c.visit-r.ensures.result_value c.is_move.ensures c.visit-r.ensures.marks_after c.loop-n-test.true c.if-is_move.true in
+    record { result_value = v.0; reread = v.1.0; mark_right_2 = v.1.1 }
 
 pub loop-n-preserved : goal.loop-n-preserved
 loop-n-preserved c =
@@ -20,7 +20,5 @@ loop-n-preserved c =
 
 pub returns : goal.returns
 returns c =
-    visit-over c.loop-n.invariant c.requires.mark_right c.requires.low_le_high.1 c.loop-n-test.false
-
--- left: returns-then-is_move: not a tuple of ['result_value', 'reread', 'mark_right_2']
--- left: returns: not a tuple of ['result_value', 'reread', 'mark_right_2']
+    let v = visit-over c.loop-n.invariant c.requires.mark_right c.requires.low_le_high.1 c.loop-n-test.false in
+    record { result_value = v.0; reread = v.1.0; mark_right_2 = v.1.1 }

@@ -3,7 +3,7 @@ use Rattle.repairs.proofs.Searching.{Visited}
 use Rattle.repairs.proofs.first_repair.Given as goal
 
 abbrev pub invariant-loop-n : goal.invariant-loop-n
-invariant-loop-n l = Visited l.m l.masks l.high l.initial.nb.nodes l.initial.nb.low l.initial.nb.high l.n l.nb l.marks
+invariant-loop-n l = Visited l.m l.initial.nb l.initial.marks l.w.nodes l.w.low l.w.high l.n l.nb l.marks
 
 abbrev pub decreases-loop-n : goal.decreases-loop-n
-decreases-loop-n l = l.initial.nb.high - l.n
+decreases-loop-n l = l.w.high - l.n

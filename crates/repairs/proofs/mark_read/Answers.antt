@@ -1,4 +1,3 @@
-use Prim.Native.Nat.{◌-◌}
 use native.Mathlib.Omega.{arith}
 use Rattle.covers.proofs.CoverLaws.{field-by}
 use Rattle.repairs.proofs.Marking.{mark-start, whole-still, mark-next, mark-skip, mark-over}

@@ -1,4 +1,4 @@
-use Prim.Native.Nat.{◌<◌, ◌-◌}
+use Prim.Native.Nat.{◌<◌}
 use mathlib.Core.Path.{◌≡◌}
 use Rattle.model.specs.Model.{model_of}
 use Rattle.graph.specs.Simulation.{simulation_of}
@@ -7,26 +7,25 @@ use Rattle.folder.proofs.FillLaws.{fill_start, fill-next, fill-over}
 use Rattle.rounds.proofs.CoverLaws.{source_in, source_is, source-stands}
 use native.Mathlib.Omega.{arith}
 use Rattle.rounds.proofs.fill_covers.Goals as goal
+use Rattle.rounds.proofs.fill_covers.Goals.{After-source_of-from}
 
-from_is : (c : goal.After-source_of-from)
+from_is : (c : After-source_of-from)
     → c.source_of-from.result ≡ source (simulation_of (model_of c.args.m.now) c.args.g.now) c.loop-n.n
 from_is c =
     source_is c.requires.valid c.shape_of-shape.ensures.size_is c.body-nb.ensures c.loop-n.n c.field-kind.ensures.0 c.field-cover.ensures.0 c.source_of-from.ensures
 
-
-from_in : (c : goal.After-source_of-from) → c.source_of-from.result < nodes_of c.args.m.now c.args.g.now
+from_in : (c : After-source_of-from) → c.source_of-from.result < nodes_of c.args.m.now c.args.g.now
 from_in c = rw (from_is c) (source_in c.requires.valid c.loop-n.n (omega arith))
 
-
 pub offset_bounds-dst-from : goal.offset_bounds-dst-from
-offset_bounds-dst-from c = omega (arith, from_in c)
+offset_bounds-dst-from c = omega (arith, from_in (goal.at.offset_bounds-dst-from c).After-source_of-from)
 
 pub bounds-dst-from : goal.bounds-dst-from
-bounds-dst-from c = omega (arith, from_in c.before)
+bounds-dst-from c = omega (arith, from_in (goal.at.bounds-dst-from c).After-source_of-from)
 
 pub loop-n-preserved : goal.loop-n-preserved
 loop-n-preserved c =
-    fill-next c.loop-n.invariant c.loop-n-test.true (omega arith) (source-stands c.requires.valid c.args.dst.now c.loop-n.n (omega arith) (from_is c.before) c.loop-n.invariant.is)
+    fill-next c.loop-n.invariant c.loop-n-test.true (omega arith) (source-stands c.requires.valid c.args.dst.now c.loop-n.n (omega arith) (from_is (goal.at.loop-n-preserved c).After-source_of-from) c.loop-n.invariant.is)
 
 pub returns : goal.returns
 returns c = fill-over c.loop-n.invariant c.loop-n-test.false c.shape_of-shape.ensures.nodes-are

@@ -8,7 +8,7 @@ use Rattle.rounds.specs.Rounds.{own_next}
 use Rattle.rounds.proofs.fill_next.Given as goal
 
 abbrev pub invariant-loop-n : goal.invariant-loop-n
-invariant-loop-n l = Filled (own_next (model_of l.m) (simulation_of (model_of l.m) l.g) l.src) l.d l.size l.dst l.n × (l.at ≡ starts_at (model_of l.m) l.g l.n)
+invariant-loop-n l = Filled (own_next (model_of l.m) (simulation_of (model_of l.m) l.g) l.src) l.nodes l.initial.dst l.dst l.n × (l.at ≡ starts_at (model_of l.m) l.g l.n)
 
 abbrev pub decreases-loop-n : goal.decreases-loop-n
-decreases-loop-n l = l.d - l.n
+decreases-loop-n l = l.nodes - l.n

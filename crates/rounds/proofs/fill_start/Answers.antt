@@ -1,4 +1,3 @@
-use Prim.Native.Nat.{◌-◌}
 use mathlib.Core.Path.{sym, ◌∙◌}
 use Rattle.folder.proofs.FillLaws.{fill_start, fill-next, fill-over}
 use Rattle.rounds.proofs.RoundLaws.{own-start}

@@ -6,7 +6,7 @@ use Rattle.rounds.specs.Rounds.{own_start}
 use Rattle.rounds.proofs.fill_start.Given as goal
 
 abbrev pub invariant-loop-n : goal.invariant-loop-n
-invariant-loop-n l = Filled (own_start (model_of l.m) (simulation_of (model_of l.m) l.g)) l.nb l.size l.dst l.n
+invariant-loop-n l = Filled (own_start (model_of l.m) (simulation_of (model_of l.m) l.g)) l.nodes l.initial.dst l.dst l.n
 
 abbrev pub decreases-loop-n : goal.decreases-loop-n
-decreases-loop-n l = l.nb - l.n
+decreases-loop-n l = l.nodes - l.n

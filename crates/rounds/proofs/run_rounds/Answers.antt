@@ -4,6 +4,3 @@ use Rattle.rounds.proofs.run_rounds.Goals as goal
 pub returns : goal.returns
 unfolding first_at second_at
 returns c = c.turns.ensures
-
--- left: ensures as a whole: c.before.before.before.before.turns.ensures
--- left: returns: not a tuple of ['first_after', 'second_after']

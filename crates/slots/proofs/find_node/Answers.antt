@@ -7,28 +7,19 @@ use Rattle.slots.specs.Nodes.{label_in, Hashed}
 use Rattle.slots.proofs.RowLaws.{label-long, found-own}
 use Rattle.slots.proofs.find_node.Goals as goal
 
-abbrev start : goal.After-load_label → goal.Start
-start c = c.before.before.before.before.before
-
-
--- What the row holds, up to vars, is the label.
-label : (c : goal.After-load_label) → let a = (start c).args in take a.vars c.load_label.new.1.1.1.0 ≡ label_in a.vars a.nb.now a.n
-label c = let a = (start c).args in take-filled a.vars _ _ c.load_label.ensures
-
-
-long : (c : goal.After-load_label) → let a = (start c).args in length (take a.vars c.load_label.new.1.1.1.0) ≡ a.vars
-long c = let a = (start c).args in label-long a.vars a.nb.now a.n (label c)
-
-
 pub find-requires : goal.find-requires
 find-requires c =
-    let s = start c.before.before in
-    (omega (arith, long c.before.before, s.pre.0), subst (λ (k : ℕ). Hashed k s.args.nb.now s.args.hashes.now) (sym (long c.before.before)) s.pre.2, s.pre.3)
+    let label : take c.args.vars c.load_label.new.row ≡ label_in c.args.vars c.args.nb.now c.args.n = take-filled c.args.vars _ _ c.load_label.ensures in
+    let long : length (take c.args.vars c.load_label.new.row) ≡ c.args.vars = label-long c.args.vars c.args.nb.now c.args.n label in
+    (omega (arith, long, c.requires.0), subst (λ (k : ℕ). Hashed k c.args.nb.now c.args.hashes.now) (sym long) c.requires.2, c.requires.3)
 
 pub returns : goal.returns
 returns c =
-    let a = (start c.before.before.before).args in
-    found-own a.nb.now a.vars a.n a.row.now (label c.before.before.before) c.find.ensures
+    let label : take c.args.vars c.load_label.new.row ≡ label_in c.args.vars c.args.nb.now c.args.n = take-filled c.args.vars _ _ c.load_label.ensures in
+    found-own c.args.nb.now c.args.vars c.args.n c.args.row.now label c.find.ensures
 
 pub slice_bounds-find-end : goal.slice_bounds-find-end
-slice_bounds-find-end c = sym (long c.before.before)
+slice_bounds-find-end c =
+    let label : take c.args.vars c.load_label.new.row ≡ label_in c.args.vars c.args.nb.now c.args.n = take-filled c.args.vars _ _ c.load_label.ensures in
+    let long : length (take c.args.vars c.load_label.new.row) ≡ c.args.vars = label-long c.args.vars c.args.nb.now c.args.n label in
+    sym long

@@ -1,5 +1,4 @@
 use mathlib.Core.Path.{refl, ◌∙◌}
-use Prim.Native.Nat.{◌-◌}
 use native.Mathlib.Omega.{arith}
 use Rattle.folder.proofs.FillLaws.{fill_start, fill-next, fill-over, fill-whole}
 use Rattle.slots.proofs.RowLaws.{hashed}

@@ -1,5 +1,5 @@
 use mathlib.Core.Path.{refl, ◌∙◌, ap}
-use Prim.Native.Nat.{ℕ, ◌-◌, ◌+◌}
+use Prim.Native.Nat.{ℕ, ◌+◌}
 use native.Mathlib.Omega.{arith}
 use Rattle.folder.specs.Contents.{signed_field}
 use Rattle.folder.proofs.FillLaws.{fill_start, fill-next, fill-over}
@@ -9,7 +9,7 @@ use Rattle.slots.proofs.load_label.Goals as goal
 pub loop-v-preserved : goal.loop-v-preserved
 loop-v-preserved c =
     fill-next c.loop-v.invariant c.loop-v-test.true (omega arith)
-    (back16 c.value_in.type-inv ∙ c.value_in.ensures ∙ ap (λ (k : ℕ). signed_field k c.args.nb.now c.args.n (6 + c.loop-v.v)) c.node_size-size.ensures.0)
+    (back16 c.value_in.type_inv ∙ c.value_in.ensures ∙ ap (λ (k : ℕ). signed_field k c.args.nb.now c.args.n (6 + c.loop-v.v)) c.node_size-size.ensures.0)
 
 pub loop-v-init : goal.loop-v-init
 loop-v-init c = fill_start _ _ _

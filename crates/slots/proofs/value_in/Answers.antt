@@ -7,12 +7,12 @@ use Rattle.folder.proofs.Signed.{cast_fits, cast-back}
 use Rattle.slots.proofs.Fields.{signed-small}
 use Rattle.slots.proofs.value_in.Goals as goal
 
-small : (c : goal.After-signed_of) → mag c.signed_of.result < 2 ^ 15
-small c = rw c.signed_of.ensures (signed-small _ c.field.ensures.1)
-
-
 pub overflow_cast-result : goal.overflow_cast-result
-overflow_cast-result c = cast_fits w64 w16 tt tt c.signed_of.result (small c)
+overflow_cast-result c =
+    let small : mag c.signed_of.result < 2 ^ 15 = rw c.signed_of.ensures (signed-small _ c.field.ensures.1) in
+    cast_fits w64 w16 tt tt c.signed_of.result small
 
 pub returns : goal.returns
-returns c = cast-back w64 w16 tt tt c.signed_of.result (small c) ∙ c.signed_of.ensures ∙ ap signed16 c.field.ensures.0
+returns c =
+    let small : mag c.signed_of.result < 2 ^ 15 = rw c.signed_of.ensures (signed-small _ c.field.ensures.1) in
+    cast-back w64 w16 tt tt c.signed_of.result small ∙ c.signed_of.ensures ∙ ap signed16 c.field.ensures.0

@@ -1,4 +1,3 @@
-use Prim.Native.Nat.{◌-◌}
 use mathlib.Core.Path.{ap₂, ◌∙◌}
 use native.Mathlib.Omega.{arith}
 use Rattle.folder.proofs.Signed.{back}
@@ -16,7 +15,7 @@ pub loop-i-preserved : goal.loop-i-preserved
 loop-i-preserved c =
     rw c.kept_if.ensures
     (compare-next _ _ _ _ c.loop-i.invariant c.loop-i-test.true c.wide-e.ensures (omega (arith, c.wide-e.ensures, c.requires _ c.loop-i-test.true))
-    (c.equal-same.ensures ∙ ap₂ eq_z (back c.value_at.type-inv ∙ c.value_at.ensures) (back c.value_at-in-loop-i.type-inv ∙ c.value_at-in-loop-i.ensures)))
+    (c.equal-same.ensures ∙ ap₂ eq_z (back c.value_at.type_inv ∙ c.value_at.ensures) (back c.value_at-in-loop-i.type_inv ∙ c.value_at-in-loop-i.ensures)))
 
 pub returns : goal.returns
 returns c = compare-over _ _ _ _ c.loop-i.invariant c.loop-i-test.false

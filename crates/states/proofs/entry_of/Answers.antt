@@ -5,7 +5,7 @@ use Rattle.states.proofs.entry_of.Goals as goal
 
 pub returns-then-is_number : goal.returns-then-is_number
 unfolding entry_in
-returns-then-is_number c = rw (← c.is_number.ensures, c.if-is_number.true) (back c.number_of.type-inv ∙ c.number_of.ensures)
+returns-then-is_number c = rw (← c.is_number.ensures, c.if-is_number.true) (back c.number_of.type_inv ∙ c.number_of.ensures)
 
 pub returns-then-truth_of : goal.returns-then-truth_of
 unfolding entry_in

@@ -1,4 +1,3 @@
-use Prim.Native.Nat.{◌-◌}
 use mathlib.Core.Path.{◌∙◌}
 use native.Mathlib.Omega.{arith}
 use Rattle.folder.proofs.Signed.{back}
@@ -15,7 +14,7 @@ pub bounds-row-e : goal.bounds-row-e
 bounds-row-e c = omega (arith, c.loop-e.invariant.long)
 
 pub loop-e-preserved : goal.loop-e-preserved
-loop-e-preserved c = stated-next _ _ _ (back c.entry_kept.type-inv ∙ c.entry_kept.ensures) (omega (arith, c.loop-e.invariant.long)) c.loop-e.invariant
+loop-e-preserved c = stated-next _ _ _ (back c.entry_kept.type_inv ∙ c.entry_kept.ensures) (omega (arith, c.loop-e.invariant.long)) c.loop-e.invariant
 
 pub shape_of-row : goal.shape_of-row
 shape_of-row c = c.loop-e.invariant.long

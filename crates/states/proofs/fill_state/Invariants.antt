@@ -5,7 +5,7 @@ use Rattle.states.proofs.Entries.{StatedTo}
 use Rattle.states.proofs.fill_state.Given as goal
 
 abbrev pub invariant-loop-e : goal.invariant-loop-e
-invariant-loop-e l = StatedTo (entries_of l.x) l.s l.known l.row (length l.n) l.e
+invariant-loop-e l = StatedTo (entries_of l.x) l.s l.known l.row (length l.initial.row) l.e
 
 abbrev pub decreases-loop-e : goal.decreases-loop-e
-decreases-loop-e l = l.initial.row - l.e
+decreases-loop-e l = l.n - l.e

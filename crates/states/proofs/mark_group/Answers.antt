@@ -1,8 +1,7 @@
-use Prim.Native.Nat.{◌-◌}
 use mathlib.Core.Path.{◌∙◌, ap, refl}
 use native.Mathlib.Omega.{arith}
 use Rattle.folder.proofs.FillLaws.{fill_start, fill-next, fill-over}
-use Rattle.states.specs.Needed.{in_group, flag_if}
+use Rattle.states.specs.Needed.{flag_if}
 use Rattle.states.proofs.mark_group.Goals as goal
 
 pub loop-k-preserved : goal.loop-k-preserved

@@ -1,4 +1,3 @@
-use Prim.Native.Nat.{◌-◌}
 use mathlib.Core.Path.{◌∙◌, refl}
 use native.Mathlib.Omega.{arith}
 use Rattle.folder.proofs.Signed.{back}
@@ -12,7 +11,7 @@ pub bounds-row-e : goal.bounds-row-e
 bounds-row-e c = omega (arith, c.wide-e.ensures, c.requires.ordered.there _ c.loop-i-test.true, c.loop-i.invariant.long)
 
 pub loop-i-preserved : goal.loop-i-preserved
-loop-i-preserved c = listed_next _ _ _ (back c.entry_of.type-inv ∙ c.entry_of.ensures) (omega (arith, c.wide-e.ensures, c.requires.ordered.there _ c.loop-i-test.true, c.loop-i.invariant.long)) _ c.loop-i.invariant c.loop-i-test.true c.wide-e.ensures
+loop-i-preserved c = listed_next _ _ _ (back c.entry_of.type_inv ∙ c.entry_of.ensures) (omega (arith, c.wide-e.ensures, c.requires.ordered.there _ c.loop-i-test.true, c.loop-i.invariant.long)) _ c.loop-i.invariant c.loop-i-test.true c.wide-e.ensures
 
 pub shape_of-row : goal.shape_of-row
 shape_of-row c = c.loop-i.invariant.long

@@ -5,7 +5,7 @@ use Rattle.states.proofs.Lists.{ListedTo}
 use Rattle.states.proofs.refresh.Given as goal
 
 abbrev pub invariant-loop-i : goal.invariant-loop-i
-invariant-loop-i l = ListedTo (entries_of l.x) l.s l.row l.list (length l.n) l.i
+invariant-loop-i l = ListedTo (entries_of l.x) l.s l.row l.list (length l.initial.row) l.i
 
 abbrev pub decreases-loop-i : goal.decreases-loop-i
-decreases-loop-i l = l.initial.row - l.i
+decreases-loop-i l = l.n - l.i

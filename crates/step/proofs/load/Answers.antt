@@ -1,14 +1,12 @@
-use Prim.Native.Nat.{◌-◌}
 use mathlib.Core.Path.{◌∙◌}
 use lib.IntN.{pos}
 use native.Mathlib.Omega.{arith}
 use Rattle.folder.proofs.FillLaws.{fill_start, fill-next, fill-list}
 use Rattle.folder.proofs.Signed.{back}
-use Rattle.expressions.specs.Meaning.{value_of}
 use Rattle.step.proofs.load.Goals as goal
 
 pub loop-i-preserved : goal.loop-i-preserved
-loop-i-preserved c = fill-next c.loop-i.invariant c.loop-i-test.true (omega arith) (back c.value_of.type-inv ∙ c.value_of.ensures)
+loop-i-preserved c = fill-next c.loop-i.invariant c.loop-i-test.true (omega arith) (back c.value_of.type_inv ∙ c.value_of.ensures)
 
 pub loop-i-init : goal.loop-i-init
 loop-i-init c = fill_start _ _ _

@@ -8,7 +8,6 @@ use Rattle.step.proofs.value_of.Goals as goal
 abbrev value : goal.After-result-1 → ℤ
 value c = get_or c.before.before.args.state.now c.before.before.args.v (pos 0)
 
-
 pub overflow_cast-result : goal.overflow_cast-result
 overflow_cast-result c = cast_fits w16 w64 tt tt (value c) c.result-1.given
 

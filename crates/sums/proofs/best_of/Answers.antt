@@ -1,4 +1,3 @@
-use Prim.Native.Nat.{◌-◌}
 use mathlib.Core.Path.{◌≡◌, ◌∙◌}
 use Rattle.graph.specs.Simulation.{edge_after}
 use Rattle.sums.specs.Edges.{best_of}
@@ -33,13 +32,12 @@ overflow_add-k-in-loop-e c =
     omega (arith, f.whole, c.well_formed)
 
 pub loop-e-preserved : goal.loop-e-preserved
-loop-e-preserved c =
-    (
-      omega arith,
-      edge-next c.requires c.loop-e.invariant.1 c.loop-e-test.true c.u16_in-c.ensures.0 c.branches_of-branches.ensures.0,
-      c.larger-best.ensures ∙ edge_more c.requires c.loop-e.invariant.1 c.loop-e-test.true c.u16_in-c.ensures.0 c.branches_of-branches.ensures.0 _ c.loop-e.invariant.2 c.edge_sum-sum.ensures.0,
-      omega arith,
-    )
+loop-e-preserved c = (
+  omega arith,
+  edge-next c.requires c.loop-e.invariant.1 c.loop-e-test.true c.u16_in-c.ensures.0 c.branches_of-branches.ensures.0,
+  c.larger-best.ensures ∙ edge_more c.requires c.loop-e.invariant.1 c.loop-e-test.true c.u16_in-c.ensures.0 c.branches_of-branches.ensures.0 _ c.loop-e.invariant.2 c.edge_sum-sum.ensures.0,
+  omega arith,
+)
 
 pub returns : goal.returns
 returns c =

@@ -1,4 +1,3 @@
-use Prim.Native.Nat.{◌-◌}
 use native.Mathlib.Omega.{arith}
 use Rattle.sums.proofs.EdgeLaws.{weigh-start, weigh-next, weigh-over}
 use Rattle.sums.proofs.edge_sum.Goals as goal

@@ -1,4 +1,3 @@
-use Prim.Native.Nat.{◌-◌}
 use native.Mathlib.Nat.{le_of_lt}
 use native.Mathlib.Omega.{arith}
 use Rattle.mdp.proofs.SumLoop.{sum-start, sum-next}
@@ -6,11 +5,10 @@ use Rattle.folder.proofs.FillLaws.{fill_start, fill-next, fill-over}
 use Rattle.sums.proofs.fill_firsts.Goals as goal
 
 pub loop-c-preserved : goal.loop-c-preserved
-loop-c-preserved c =
-    (
-      fill-next c.loop-c.invariant.0 c.loop-c-test.true (omega (arith, c.count_of-commands.ensures)) c.loop-c.invariant.1.total,
-      sum-next c.loop-c.invariant.1 c.loop-c-test.true c.field-next.ensures.0 (le_of_lt c.field-next.ensures.1),
-    )
+loop-c-preserved c = (
+  fill-next c.loop-c.invariant.0 c.loop-c-test.true (omega (arith, c.count_of-commands.ensures)) c.loop-c.invariant.1.total,
+  sum-next c.loop-c.invariant.1 c.loop-c-test.true c.field-next.ensures.0 (le_of_lt c.field-next.ensures.1),
+)
 
 pub loop-c-init : goal.loop-c-init
 loop-c-init c = (fill_start _ _ _, sum-start _ _ _)

@@ -7,7 +7,7 @@ use Rattle.sums.specs.Tables.{first_in}
 use Rattle.sums.proofs.fill_firsts.Given as goal
 
 abbrev pub invariant-loop-c : goal.invariant-loop-c
-invariant-loop-c l = Filled (first_in l.cs) l.initial.firsts l.commands l.firsts l.c × Summed field_limit (branches_in l.cs) l.initial.firsts l.c l.next
+invariant-loop-c l = Filled (first_in l.cs) l.commands l.initial.firsts l.firsts l.c × Summed field_limit (branches_in l.cs) l.commands l.c l.next
 
 abbrev pub decreases-loop-c : goal.decreases-loop-c
-decreases-loop-c l = l.initial.firsts - l.c
+decreases-loop-c l = l.commands - l.c

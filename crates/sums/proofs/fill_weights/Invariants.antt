@@ -4,7 +4,7 @@ use Rattle.sums.specs.Tables.{weight_in, Light}
 use Rattle.sums.proofs.fill_weights.Given as goal
 
 abbrev pub invariant-loop-r : goal.invariant-loop-r
-invariant-loop-r l = Filled (weight_in l.size l.bs) l.initial.weights l.records l.weights l.r × Light l.r (weight_in l.size l.bs)
+invariant-loop-r l = Filled (weight_in l.size l.bs) l.records l.initial.weights l.weights l.r × Light l.r (weight_in l.size l.bs)
 
 abbrev pub decreases-loop-r : goal.decreases-loop-r
-decreases-loop-r l = l.initial.weights - l.r
+decreases-loop-r l = l.records - l.r

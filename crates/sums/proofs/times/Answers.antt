@@ -8,7 +8,6 @@ use Rattle.sums.proofs.times.Goals as goal
 small : (c : goal.Start) → c.args.weight * c.args.x ≤ most_product
 small c = mul-le-mul {n₁ = c.args.weight} {m₁ = c.args.x} {n₂ = field_limit - 1} {m₂ = field4_limit - 1} (omega arith) (omega arith)
 
-
 pub returns : goal.returns
 returns c = omega (arith, small c)
 

@@ -8,23 +8,11 @@ use Rattle.view.specs.Starts.{is_in}
 use Rattle.view.proofs.PartLaws.{there-inside, there-place, there-part, none-place, none-part}
 use Rattle.view.proofs.part_in.Goals as goal
 
-there : (c : goal.Then-is_in)
-    → is_in (length c.args.m.now) c.args.starts
-    c.args.e c.args.i ≡ true
-there c = sym c.is_in.ensures ∙ c.if-is_in.true
-
-
-inside : (c : goal.After-start_in)
-    → c.start_in.result + c.size_in-size.result * c.args.i +
-    c.size_in-size.result ≤ length c.args.m.now
-inside c =
-    there-inside c.args.m.now c.args.starts c.args.e c.args.i c.size_in-size.ensures.0 c.start_in.ensures
-    (there c.before.before)
-
-
 pub returns-then-is_in : goal.returns-then-is_in
 returns-then-is_in c =
-    let t = there c.before.before.before in
+    let there : is_in (length c.args.m.now) c.args.starts
+    c.args.e c.args.i ≡ true = sym c.is_in.ensures ∙ c.if-is_in.true in
+    let t = there in
     record {
       bytes = there-part c.args.m.now c.args.starts c.args.e c.args.i c.size_in-size.ensures.0 c.start_in.ensures t;
       place = moved c.args.m.ref_ptr (there-place c.args.m.now c.args.starts c.args.e c.args.i c.size_in-size.ensures.0 c.start_in.ensures t);
@@ -39,13 +27,37 @@ returns-else-is_in c =
     }
 
 pub overflow_mul-at : goal.overflow_mul-at
-overflow_mul-at c = omega (arith, inside c)
+overflow_mul-at c =
+    let there : is_in (length c.args.m.now) c.args.starts
+    c.args.e c.args.i ≡ true = sym c.is_in.ensures ∙ c.if-is_in.true in
+    let inside : c.start_in.result + c.size_in-size.result * c.args.i +
+    c.size_in-size.result ≤ length c.args.m.now = there-inside c.args.m.now c.args.starts c.args.e c.args.i c.size_in-size.ensures.0 c.start_in.ensures
+    there in
+    omega (arith, inside)
 
 pub overflow_add-at : goal.overflow_add-at
-overflow_add-at c = omega (arith, inside c)
+overflow_add-at c =
+    let there : is_in (length c.args.m.now) c.args.starts
+    c.args.e c.args.i ≡ true = sym c.is_in.ensures ∙ c.if-is_in.true in
+    let inside : c.start_in.result + c.size_in-size.result * c.args.i +
+    c.size_in-size.result ≤ length c.args.m.now = there-inside c.args.m.now c.args.starts c.args.e c.args.i c.size_in-size.ensures.0 c.start_in.ensures
+    there in
+    omega (arith, inside)
 
 pub overflow_add-result : goal.overflow_add-result
-overflow_add-result c = omega (arith, inside c)
+overflow_add-result c =
+    let there : is_in (length c.args.m.now) c.args.starts
+    c.args.e c.args.i ≡ true = sym c.is_in.ensures ∙ c.if-is_in.true in
+    let inside : c.start_in.result + c.size_in-size.result * c.args.i +
+    c.size_in-size.result ≤ length c.args.m.now = there-inside c.args.m.now c.args.starts c.args.e c.args.i c.size_in-size.ensures.0 c.start_in.ensures
+    there in
+    omega (arith, inside)
 
 pub slice_bounds-result-end : goal.slice_bounds-result-end
-slice_bounds-result-end c = omega (arith, inside c)
+slice_bounds-result-end c =
+    let there : is_in (length c.args.m.now) c.args.starts
+    c.args.e c.args.i ≡ true = sym c.is_in.ensures ∙ c.if-is_in.true in
+    let inside : c.start_in.result + c.size_in-size.result * c.args.i +
+    c.size_in-size.result ≤ length c.args.m.now = there-inside c.args.m.now c.args.starts c.args.e c.args.i c.size_in-size.ensures.0 c.start_in.ensures
+    there in
+    omega (arith, inside)

@@ -7,7 +7,6 @@ use Rattle.view.proofs.size_in.Goals as goal
 abbrev Positive : ℕ → Type 0
 Positive r = 0 < r
 
-
 pub returns : goal.returns
 unfolding size_in
 returns c =

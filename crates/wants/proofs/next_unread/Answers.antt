@@ -1,4 +1,3 @@
-use Prim.Native.Nat.{◌-◌}
 use native.Mathlib.Omega.{arith}
 use Rattle.wants.proofs.Answers.{read-start, read_next}
 use Rattle.wants.proofs.next_unread.Goals as goal

@@ -1,9 +1,8 @@
-use Prim.Native.Nat.{◌-◌, ◌<◌}
+use Prim.Native.Nat.{◌<◌}
 use mathlib.Core.Path.{refl, ◌∙◌}
 use native.Mathlib.Omega.{arith}
 use Rattle.model.specs.Model.{model_of}
 use Rattle.model.proofs.Limits.{limits}
-use Rattle.building.specs.First.{given}
 use Rattle.building.proofs.FirstLaws.{search-start}
 use Rattle.wants.specs.Wants.{result_in}
 use Rattle.wants.proofs.Here.{field-read, read_again}

@@ -1,9 +1,8 @@
-use Prim.Native.Nat.{◌-◌, ◌<◌}
+use Prim.Native.Nat.{◌<◌}
 use mathlib.Core.Path.{refl, ◌∙◌}
 use native.Mathlib.Omega.{arith}
 use Rattle.model.specs.Model.{model_of}
 use Rattle.model.proofs.Limits.{limits}
-use Rattle.building.specs.First.{given}
 use Rattle.building.proofs.FirstLaws.{search-start}
 use Rattle.wants.specs.Wants.{results_in}
 use Rattle.wants.proofs.Here.{field-read, read_again}
@@ -21,10 +20,14 @@ pub is_on-requires : goal.is_on-requires
 is_on-requires c = omega (arith, c.loop-c-test.true, commands-are _ c.body-cs.ensures c.count_of-commands.ensures, (limits c.requires.node_read.node.model.folder).commands)
 
 pub branches_want-w-requires : goal.branches_want-w-requires
-branches_want-w-requires c = let l : c.loop-c.c < (model_of c.args.m.now).commands = omega (arith, c.loop-c-test.true, commands-are _ c.body-cs.ensures c.count_of-commands.ensures) in record { node_read = read_again c.requires.node_read c.loop-c.invariant.2 c.loop-c.invariant.3; count_bound = (
-          records-there c.requires.node_read c.loop-c.invariant.1 l c.body-cs.ensures c.field-branches.ensures.0 c.is_on.ensures c.if_on-count.ensures.0 c.if_on-count.ensures.1,
-          children-there c.requires.node_read c.loop-c.invariant.1 l c.body-cs.ensures c.field-branches.ensures.0 c.is_on.ensures c.if_on-count.ensures.0 c.if_on-count.ensures.1 c.requires.n_bound,
-        ); by_index = children-read c.requires.node_read c.loop-c.invariant.1 l c.body-cs.ensures c.field-branches.ensures.0 c.is_on.ensures c.if_on-count.ensures.0 c.if_on-count.ensures.1 c.requires.all_read }
+branches_want-w-requires c = let l : c.loop-c.c < (model_of c.args.m.now).commands = omega (arith, c.loop-c-test.true, commands-are _ c.body-cs.ensures c.count_of-commands.ensures) in record {
+  node_read = read_again c.requires.node_read c.loop-c.invariant.2 c.loop-c.invariant.3;
+  count_bound = (
+    records-there c.requires.node_read c.loop-c.invariant.1 l c.body-cs.ensures c.field-branches.ensures.0 c.is_on.ensures c.if_on-count.ensures.0 c.if_on-count.ensures.1,
+    children-there c.requires.node_read c.loop-c.invariant.1 l c.body-cs.ensures c.field-branches.ensures.0 c.is_on.ensures c.if_on-count.ensures.0 c.if_on-count.ensures.1 c.requires.n_bound,
+  );
+  by_index = children-read c.requires.node_read c.loop-c.invariant.1 l c.body-cs.ensures c.field-branches.ensures.0 c.is_on.ensures c.if_on-count.ensures.0 c.if_on-count.ensures.1 c.requires.all_read;
+}
 
 pub shape_of-known-then-w-ne-NO_VARIABLE : goal.shape_of-known-then-w-ne-NO_VARIABLE
 shape_of-known-then-w-ne-NO_VARIABLE c = c.known-1.given ∙ c.loop-c.invariant.3

@@ -1,4 +1,3 @@
-use Prim.Native.Nat.{◌-◌}
 use native.Mathlib.Omega.{arith}
 use Rattle.work.proofs.RootLaws.{begin-start, begin-next, begin-over}
 use Rattle.work.proofs.put_root.Goals as goal

@@ -3,7 +3,7 @@ use Rattle.work.specs.Root.{Begun}
 use Rattle.work.proofs.put_root.Given as goal
 
 abbrev pub invariant-loop-f : goal.invariant-loop-f
-invariant-loop-f l = Begun l.vars l.y l.f l.last l.nb
+invariant-loop-f l = Begun l.vars l.y l.f l.initial.nb l.nb
 
 abbrev pub decreases-loop-f : goal.decreases-loop-f
-decreases-loop-f l = l.initial.nb - l.f
+decreases-loop-f l = l.last - l.f

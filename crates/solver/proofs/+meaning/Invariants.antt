@@ -1,0 +1,4 @@
+use Rattle.solver.proofs.+meaning.Given as goal
+
+abbrev pub decreases-meaning : goal.decreases-meaning
+decreases-meaning l = l.fuel
