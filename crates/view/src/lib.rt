@@ -9,7 +9,7 @@ ghost use Rattle.view.specs.Starts.{starts_of, start_in, bytes_in, size_in, is_i
 ghost use Rattle.view.specs.Held.{Looked, Views};
 
 // Anything can stand in the starts: a lookup stays within the folder all the same.
-#[derive(Drop)]
+#[derive(Clone, Copy)]
 pub struct View<'a> {
     model: &'a [u8],
     starts: [usize; 5],
