@@ -24,7 +24,7 @@ DOCUMENTS = ("docs/CLAIMS.md", "docs/AUDIT.md")
 QUOTED = re.compile(r"`([^`]+)`")
 WORD = re.compile(r"[^\s().,;:{}λ→↔≡<≤×+*/=]+")
 DECLARED = re.compile(r"^\s*(?:pub |abbrev |unfoldable |infix\S* \d+ )*([^\s:({]+(?: [^\s:({]+)*) :(?: |$)", re.M)
-ANSWERS = {"Accepted", "Refused"}  # which terms have, and the toolchain declares
+ANSWERS = {"Ok", "Err", "tt"}  # which terms have, and the toolchain declares
 
 
 def files_below(top, endings):

@@ -1,19 +1,20 @@
 -- Row 35 as the code tests it.
 -- Assumes nothing.
-use Prim.Native.Nat.{ℕ, ◌≤◌, ◌<◌}
+use Prim.Native.Nat.{ℕ, ◌<◌}
 use mathlib.Core.Path.{◌≡◌, refl}
 use mathlib.Core.Logic.{◌↔◌}
 use mathlib.Core.Bool.{Bool, true, false}
-use mathlib.Core.List.{List, ◌∷◌}
+use mathlib.Core.List.{List, [], ◌∷◌}
 use native.Mathlib.Omega.{arith}
-use borrow.Author.Tests.{le-leb, lt-leb, leb-true}
-use lib.ListN.{length}
+use borrow.Author.Tests.{le-leb, leb-true}
 use lib.Dec.{eqb}
 use Rattle.folder.specs.Pick.{pick}
 use Rattle.folder.specs.Scan.{first_bad}
-use Rattle.folder.specs.Table.{Row, AllHold, none, more}
+use Rattle.folder.specs.Table.{Row, row, single, outcome, AllHold, none, more}
+use Rattle.folder.specs.declared.Refusal.{Refusal}
+use Rattle.std.specs.Prelude.{Ok, Err}
 use Rattle.model.specs.Model.{Model}
-use Rattle.assembly.specs.Build.{most_rounds, one_node, build_fits, build_rows, BuildRight}
+use Rattle.assembly.specs.Build.{build_rows, BuildRight}
 
 head-holds : {r : Row} {rs : List Row} → AllHold (r ∷ rs) → (k : ℕ) → k < r.count → r.ok k ≡ true
 head-holds (more h t) = h.at
@@ -22,20 +23,22 @@ both : (s : Bool) {a b : Bool} → a ≡ true → b ≡ true → pick s a b ≡ 
 both true p q = p
 both false p q = q
 
+-- Two tests one after the other, at places 0 and 1, are a row of two places.
+abbrev pub two : ℕ → Bool → Bool → Row
+two n a b = row n 2 (λ p. pick (eqb p 0) a b)
+
+pub pair-stops : (n : ℕ) (a b : Bool) {f : Refusal} → Err f ≡ outcome (single n 0 a ∷ []) → Err f ≡ outcome (two n a b ∷ [])
+unfolding outcome first_bad
+pair-stops n true b e = cc
+pair-stops n false b e = e
+
+pub pair-goes-on : (n : ℕ) (a b : Bool) → Ok tt ≡ outcome (single n 0 a ∷ []) → outcome (single n 1 b ∷ []) ≡ outcome (two n a b ∷ [])
+unfolding outcome first_bad
+pair-goes-on n true true e = refl
+pair-goes-on n true false e = refl
+pair-goes-on n false b e = cc
+
 module _ (M : Model) (rounds : ℕ) (out : List ℕ) where
-  pub slice-short : length out < one_node M → 0 ≡ first_bad (build_fits M rounds out) 2
-  unfolding first_bad
-  slice-short l = rw (lt-leb (one_node M) (length out) l) refl
-
-  module _ (p : one_node M ≤ length out) where
-    pub rounds-many : most_rounds < rounds → 1 ≡ first_bad (build_fits M rounds out) 2
-    unfolding first_bad
-    rounds-many l = rw (le-leb (one_node M) (length out) p, lt-leb rounds most_rounds l) refl
-
-    pub both-fit : rounds ≤ most_rounds → 2 ≡ first_bad (build_fits M rounds out) 2
-    unfolding first_bad
-    both-fit l = rw (le-leb (one_node M) (length out) p, le-leb rounds most_rounds l) refl
-
   -- The row asks for its rule.
   pub build-asks : AllHold (build_rows M rounds out) ↔ BuildRight M rounds out
   build-asks = (

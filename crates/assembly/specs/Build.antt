@@ -1,10 +1,9 @@
 -- Document 02, 2.5: the call that builds. Row 35 after the model's, the answer, and the content of the lent slice.
 -- Assumes nothing.
-use Rattle.std.specs.Prelude.{ℕ, ◌+◌, ◌≤◌, min, Bool, List, [], ◌∷◌, ◌++◌, eqb, leb, length}
+use Rattle.std.specs.Prelude.{ℕ, ◌+◌, ◌≤◌, min, Bool, List, [], ◌∷◌, ◌++◌, eqb, leb, length, Err, Ok, Result}
+use Rattle.folder.specs.declared.Refusal.{Refusal}
 use Rattle.folder.specs.Pick.{pick}
-use Rattle.folder.specs.Table.{places, no_places, Row, row, outcome}
-use Rattle.folder.specs.declared.Outcome.{Outcome}
-use Rattle.folder.specs.declared.Outcome.TheVariants as O
+use Rattle.folder.specs.Table.{places, no_places, Row, row, outcome, Outcome}
 use Rattle.model.specs.Model.{Model, model_of}
 use Rattle.model.specs.Table.{model_rows}
 use Rattle.graph.specs.Limits.{least_bytes, most_bytes, most_nodes}
@@ -13,8 +12,6 @@ use Rattle.graph.specs.Figures.{over}
 use Rattle.building.specs.Moves.{Limit}
 use Rattle.building.specs.Built.{built_graph}
 use Rattle.written.specs.Bytes.{graph_bytes}
-use Rattle.assembly.specs.declared.BuildAnswer.{BuildAnswer}
-use Rattle.assembly.specs.declared.BuildAnswer.TheVariants.{Built, Refused}
 
 -- Rounds that may be asked for.
 abbrev pub most_rounds : ℕ
@@ -27,6 +24,10 @@ one_node M = least_bytes + node_size M.variables
 -- Building ends when the next expansion would pass 4,096 nodes, the graph length limit or the lent slice.
 abbrev pub limit_for : List ℕ → Limit
 limit_for out = record { most = most_nodes; longest = min (length out) most_bytes }
+
+-- The length of a graph that is built, or the refusal.
+abbrev pub BuildAnswer : Type 0
+BuildAnswer = Result ℕ Refusal
 
 module _ (M : Model) (rounds : ℕ) (out : List ℕ) where
   -- Row 35: the slice can hold a graph of one node; at most 1,000 rounds.
@@ -50,12 +51,12 @@ module _ (M : Model) (rounds : ℕ) (out : List ℕ) where
 
   -- What the call answers, and the slice that it leaves: the bytes stand first, later ones stay. Refused, all stay.
   abbrev pub answer_of : Outcome → BuildAnswer
-  answer_of O.Accepted = Built (length bytes_for)
-  answer_of (O.Refused f) = Refused f
+  answer_of (Ok _) = Ok (length bytes_for)
+  answer_of (Err f) = Err f
 
   abbrev pub slice_of : Outcome → List ℕ
-  slice_of O.Accepted = over bytes_for out
-  slice_of (O.Refused f) = out
+  slice_of (Ok _) = over bytes_for out
+  slice_of (Err f) = out
 
 module _ (m : List ℕ) (rounds : ℕ) (out : List ℕ) where
   unfoldable pub build_outcome : Outcome
@@ -69,13 +70,13 @@ module _ (m : List ℕ) (rounds : ℕ) (out : List ℕ) where
 
 -- Document 02's number of an answer, the two places returned with it, and the length. A refusal has none: 0.
 abbrev pub build_number : BuildAnswer → ℕ
-build_number (Built n) = 0
-build_number (Refused f) = f.number
+build_number (Ok n) = 0
+build_number (Err f) = f.number
 
 abbrev pub build_places : BuildAnswer → List ℕ
-build_places (Built n) = no_places
-build_places (Refused f) = places f
+build_places (Ok n) = no_places
+build_places (Err f) = places f
 
 abbrev pub build_length : BuildAnswer → ℕ
-build_length (Built n) = n
-build_length (Refused f) = 0
+build_length (Ok n) = n
+build_length (Err f) = 0

@@ -20,31 +20,19 @@ ghost use Rattle.assembly.specs.Stages.{contents_by, bodies_by, Bodied};
 ghost use Rattle.assembly.specs.Build.{one_node, limit_for, BuildRight, build_rows, bytes_for, answer_of, slice_of};
 
 use builder::Size;
-use folder::{Outcome, Refusal};
+use folder::Refusal;
 use graph::{LEAST_BYTES, MOST_BYTES, MOST_NODES};
-
-// The length of a graph, or why there is none.
-#[derive(Clone, Copy)]
-pub enum BuildAnswer {
-    Built(usize),
-    Refused(Refusal),
-}
 
 const MOST_ROUNDS: usize = 1000;
 
 // Row 35.
-pub fn build_check(m: &[u8], rounds: usize, out: &[u8]) -> Outcome
+pub fn build_check(m: &[u8], rounds: usize, out: &[u8]) -> Result<(), Refusal>
     requires { Valid m.now }
     ensures { result ≡ outcome (build_rows (model_of m.now) rounds out.now) }
 {
     let one = LEAST_BYTES + graph::node_size(graph::variable_count(m));
-    if out.len() < one {
-        return folder::refuse(35, 0);
-    }
-    if rounds > MOST_ROUNDS {
-        return folder::refuse(35, 1);
-    }
-    Outcome::Accepted
+    folder::check(35, 0, one <= out.len())?;
+    folder::check(35, 1, rounds <= MOST_ROUNDS)
 }
 
 // The contents of a folder whose bodies have a and b bytes.
@@ -58,22 +46,14 @@ fn put_contents(out: &mut [u8], a: usize, b: usize)
     put::put_word(out, 12, b);
 }
 
-fn wide(x: u32) -> usize
-    ensures { (result ≡ x) × (result < field4_limit) }
-{
-    x as usize
-}
-
 // Each node's value is put into its record.
 fn put_values(vars: usize, nodes: usize, row: &[u32], nb: &mut [u8])
     requires { (vars ≤ most_variables) × (nodes ≤ most_nodes) × (nodes ≤ length row.now) × (node_size vars * nodes ≤ length nb.old) }
     ensures { (M : Model) (B : Building) (value : ℕ → ℕ) (rest : List ℕ) → vars ≡ M.variables → nodes ≡ B.nodes → nb.old ≡ over (bodies_by M B value) rest → nb.new ≡ over (bodies_by M B (λ n. get_or row.now n 0)) rest }
 {
     let size = graph::node_size(vars);
-    let mut n = 0;
-    while n < nodes {
-        put::put_word(nb, size * n + 4, wide(row[n]));
-        n += 1;
+    for n in 0..nodes {
+        put::put_word(nb, size * n + 4, row[n] as usize);
     }
 }
 
@@ -99,7 +79,7 @@ fn build_certain(m: &[u8], begins: &mut [u32], out: &mut [u8]) -> Size
     ensures out_after { out.new ≡ over (bytes_for (model_of m.now) 0 out.old) out.old }
     ensures walked { Walked (model_of m.now) (built (model_of m.now) (limit_for out.old)) (row_in begins.new) }
 {
-    let longest = work::smaller(out.len(), MOST_BYTES);
+    let longest = out.len().min(MOST_BYTES);
     let size = build_bodies(m, longest, begins, &mut out[LEAST_BYTES..]);
     let nodes = graph::node_size(graph::variable_count(m)) * size.nodes;
     put_contents(out, nodes, size.len - LEAST_BYTES - nodes);
@@ -128,14 +108,11 @@ pub fn build_fill(m: &[u8], rounds: usize, out: &mut [u8]) -> usize
 }
 
 // Row 35 and the slice. Refused, it stays.
-pub fn build_lent(m: &[u8], rounds: usize, out: &mut [u8]) -> BuildAnswer
+pub fn build_lent(m: &[u8], rounds: usize, out: &mut [u8]) -> Result<usize, Refusal>
     requires { Valid m.now }
     ensures value { result ≡ answer_of (model_of m.now) rounds out.old (outcome (build_rows (model_of m.now) rounds out.old)) }
     ensures out_after { out.new ≡ slice_of (model_of m.now) rounds out.old (outcome (build_rows (model_of m.now) rounds out.old)) }
 {
-    let o = build_check(m, rounds, out);
-    match o {
-        Outcome::Refused(f) => BuildAnswer::Refused(f),
-        Outcome::Accepted => BuildAnswer::Built(build_fill(m, rounds, out)),
-    }
+    build_check(m, rounds, out)?;
+    Ok(build_fill(m, rounds, out))
 }

@@ -9,50 +9,21 @@ ghost use Rattle.folder.specs.Tab.{tab};
 ghost use Rattle.building.specs.Counts.{begin_after};
 ghost use Rattle.put.specs.Put.{Changed};
 
-fn wide(x: u32) -> usize
-    ensures { result ≡ x }
-{
-    x as usize
-}
-
 // Where the edges of node n begin.
 pub fn begin_of(begins: &[u32], n: usize) -> usize
     requires { n < length begins.now }
     ensures { result ≡ get_or begins.now n 0 }
 {
-    wide(begins[n])
+    begins[n] as usize
 }
 
-// Later by so many bytes.
-fn later(begin: u32, bytes: usize) -> u32
-    requires { begin + bytes < field4_limit }
-    ensures { result ≡ begin + bytes }
+// All of them begin later by so many bytes.
+fn move_later(begins: &mut [u32], bytes: usize)
+    requires { (i : ℕ) → i < length begins.old → get_or begins.old i 0 + bytes < field4_limit }
+    ensures { Changed 0 (length begins.old) (λ _ begin. begin + bytes) begins.old begins.new }
 {
-    (begin as usize + bytes) as u32
-}
-
-// The edges of the nodes from `from` to below `to` begin later.
-fn move_later(begins: &mut [u32], from: usize, to: usize, bytes: usize)
-    requires from_le_to { (from ≤ to) × (to ≤ length begins.old) }
-    requires by_index { (i : ℕ) → from ≤ i → i < to → get_or begins.old i 0 + bytes < field4_limit }
-    ensures { Changed from to (λ _ begin. begin + bytes) begins.old begins.new }
-{
-    let mut i = from;
-    while i < to {
-        begins[i] = later(begins[i], bytes);
-        i += 1;
-    }
-}
-
-// Those of the nodes from `from` to below `to` would begin at `at`.
-fn begin_at(begins: &mut [u32], from: usize, to: usize, at: u32)
-    requires { (from ≤ to) × (to ≤ length begins.old) }
-    ensures { Changed from to (λ _ _. at) begins.old begins.new }
-{
-    let mut i = from;
-    while i < to {
-        begins[i] = at;
-        i += 1;
+    for begin in begins.iter_mut() {
+        *begin += bytes as u32;
     }
 }
 
@@ -62,6 +33,6 @@ pub fn expand(begins: &mut [u32], n: usize, nodes: usize, births: usize, bytes: 
     requires by_index { (i : ℕ) → n < i → i < nodes → get_or begins.old i 0 + bytes < field4_limit }
     ensures { begins.new ≡ tab (length begins.old) (begin_after n nodes births bytes end (λ i. get_or begins.old i 0)) }
 {
-    move_later(begins, n + 1, nodes, bytes);
-    begin_at(begins, nodes, nodes + births, end as u32);
+    move_later(&mut begins[n + 1..nodes], bytes);
+    begins[nodes..nodes + births].fill(end as u32);
 }

@@ -1,9 +1,9 @@
 -- Document 02, 2.6: after every covering, expansion and repair, and at every turn of the loop, the waiting count and where each
 -- node's edges begin equal what counting the nodes and walking the edges give.
 -- Assumes nothing.
+use Rattle.std.specs.Prelude.{Option}
 use Prim.Native.Nat.{ℕ, ◌≤◌}
 use mathlib.Core.List.{List}
-use mathlib.Core.Option.{Option}
 use native.Mathlib.Omega.{arith}
 use Rattle.model.specs.Model.{model_of}
 use Rattle.graph.specs.Limits.{units}
@@ -12,7 +12,7 @@ use Rattle.building.specs.Counts.{Counts}
 use Rattle.written.proofs.Counted.{counts-written}
 use Rattle.wants.specs.Standing.{row_in, Held}
 use Rattle.work.specs.declared.Work.{Work}
-use Rattle.work.specs.Working.{limit_of, graph_in, Lent, Made}
+use Rattle.work.specs.Working.{limit_of, graph_in, Lent, Ready, Made}
 use Rattle.builder.specs.Recounted.{Recounted}
 use Rattle.builder.proofs.Loop.{Growing}
 
@@ -26,7 +26,10 @@ module _ (value : ℕ → ℕ) (small : (n : ℕ) → value n ≤ units) where
   pub made-recounted : {m : List ℕ} {longest : ℕ} {w w' : Work} {nb nb' marks' reaches' begins' : List ℕ} {mv : Option Move} → Made m longest w nb mv w' nb' marks' reaches' begins' → Recounted m w' nb' begins' value
   made-recounted M = recounted M.working.held M.working.lent M.working.known.counts
 
-  -- The loop, before it makes one and after the last.
-  pub loop-recounted : {m : List ℕ} {longest least : ℕ} {nb₀ marks₀ reaches₀ begins₀ : List ℕ} {w : Work} {nb marks reaches begins : List ℕ} {mv : Option Move}
-      → Growing m longest least nb₀ marks₀ reaches₀ begins₀ w nb marks reaches begins mv → Recounted m w nb begins value
-  loop-recounted G = recounted G.ready.held G.ready.lent G.ready.counts
+  -- The loop, before it looks for the next move; and once it has looked, also for the last time.
+  pub loop-recounted : {m : List ℕ} {longest : ℕ} {nb₀ marks₀ reaches₀ begins₀ : List ℕ} {w : Work} {nb marks reaches begins : List ℕ}
+      → Growing m longest nb₀ marks₀ reaches₀ begins₀ w nb marks reaches begins → Recounted m w nb begins value
+  loop-recounted G = recounted G.working.held G.working.lent G.working.known.counts
+
+  pub look-recounted : {m : List ℕ} {longest : ℕ} {w : Work} {nb marks reaches begins : List ℕ} {mv : Option Move} → Ready m longest w nb marks reaches begins mv → Recounted m w nb begins value
+  look-recounted R = recounted R.held R.lent R.counts

@@ -43,10 +43,8 @@ fn grow(
     ensures stays { Stays 0 (node_size (variable_count m.now) * result.nodes) nb.old nb.new }
 {
     let mut w = start;
-    let mut mv = growth::next_move(m, nb, masks, marks, longest, w);
-    while repairs::is_move(mv) {
+    while let Some(mv) = growth::next_move(m, nb, masks, marks, longest, w) {
         w = making::make(m, nb, marks, reaches, begins, longest, w, mv);
-        mv = growth::next_move(m, nb, masks, marks, longest, w);
     }
     Size {
         nodes: w.nodes,

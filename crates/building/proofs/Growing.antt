@@ -3,7 +3,6 @@
 use Prim.Native.Nat.{ℕ, ◌^◌, ◌<◌}
 use mathlib.Core.Path.{◌≡◌, refl, sym, ap, ◌∙◌}
 use mathlib.Core.Bool.{Bool, true, false}
-use mathlib.Core.Option.{none}
 use native.Mathlib.Decide.{ℕ_discrete}
 use lib.IntN.{ℤ}
 use Rattle.folder.specs.Pick.{implies}
@@ -14,9 +13,7 @@ use Rattle.whole.specs.Order.{eq_z}
 use Rattle.expressions.specs.Meaning.{State, value_of, number_in, truth_in}
 use Rattle.expressions.specs.Reading.{has_bit, known_truth}
 use Rattle.expressions.specs.Mentions.{carry_n, carry_t}
-use Rattle.expressions.specs.declared.Number.{Number}
-use Rattle.expressions.specs.declared.Number.TheVariants.{Known}
-use Rattle.expressions.specs.declared.Truth.{Truth}
+use Rattle.expressions.specs.ThreeWay.{Number, Truth}
 use Rattle.expressions.proofs.Relabel.{number-grows, truth-grows}
 use Rattle.model.specs.Model.{Model, bound}
 use Rattle.model.specs.Chances.{InRange}
@@ -24,12 +21,13 @@ use Rattle.building.specs.Building.{Building, agrees}
 use Rattle.building.specs.Moves.{tracking, wanted_t, wanted_n, truth_wants, number_wants, guards_want}
 use Rattle.building.proofs.FirstLaws.{put-at, put_other, first-none, first-nowhere}
 use Rattle.building.proofs.ReadLaws.{proper-by, truth-none, number-none}
+use Rattle.std.specs.Prelude.{Some, None}
 
-wants-no-truth : {r : Truth} (x : ℕ) (b : Bool) → r ≡ known_truth b → wanted_t (carry_t x r) ≡ none
+wants-no-truth : {r : Truth} (x : ℕ) (b : Bool) → r ≡ known_truth b → wanted_t (carry_t x r) ≡ None
 wants-no-truth x true e = rw e refl
 wants-no-truth x false e = rw e refl
 
-wants-no-number : {r : Number} (x : ℕ) (z : ℤ) → r ≡ Known z → wanted_n (carry_n x r) ≡ none
+wants-no-number : {r : Number} (x : ℕ) (z : ℤ) → r ≡ Some z → wanted_n (carry_n x r) ≡ None
 wants-no-number x z e = rw e refl
 
 module _ (M : Model) (B : Building) (n t : ℕ) (more : (v : ℕ) → has_bit (B.tracked n) v ≡ true → has_bit t v ≡ true) (small : t < 2 ^ M.variables) where
@@ -52,7 +50,7 @@ module _ (M : Model) (B : Building) (n t : ℕ) (more : (v : ℕ) → has_bit (B
       more-here : (v : ℕ) → has_bit (B.tracked i) v ≡ true → has_bit t v ≡ true
       more-here v b = more v (ap (λ (k : ℕ). has_bit (B.tracked k) v) (sym q) ∙ b)
 
-      number_same : number_wants M B i e ≡ none → number_wants M T i e ≡ none
+      number_same : number_wants M B i e ≡ None → number_wants M T i e ≡ None
       unfolding number_wants
       number_same h =
           let z : ℤ = number_in M.entries (B.state i) e in
@@ -60,7 +58,7 @@ module _ (M : Model) (B : Building) (n t : ℕ) (more : (v : ℕ) → has_bit (B
           let g = number-grows M.entries M.variables (bound M) (B.tracked i) t (B.state i) more-here e (proper-by M (B.tracked i) (B.state i) low r) (proper-by M t (B.state i) small r) z k in
           rw grown-set (wants-no-number _ z g)
 
-      truth-same : truth_wants M B i e ≡ none → truth_wants M T i e ≡ none
+      truth-same : truth_wants M B i e ≡ None → truth_wants M T i e ≡ None
       unfolding truth_wants
       truth-same h =
           let z : Bool = truth_in M.entries (B.state i) e in
@@ -68,21 +66,21 @@ module _ (M : Model) (B : Building) (n t : ℕ) (more : (v : ℕ) → has_bit (B
           let g = truth-grows M.entries M.variables (bound M) (B.tracked i) t (B.state i) more-here e (proper-by M (B.tracked i) (B.state i) low r) (proper-by M t (B.state i) small r) z k in
           rw grown-set (wants-no-truth _ z g)
 
-    pub number-stays : number_wants M B i e ≡ none → number_wants M T i e ≡ none
+    pub number-stays : number_wants M B i e ≡ None → number_wants M T i e ≡ None
     number-stays h = go (ℕ_discrete i n)
       where
-        go : Dec (i ≡ n) → number_wants M T i e ≡ none
+        go : Dec (i ≡ n) → number_wants M T i e ≡ None
         go (yes q) = number_same q h
         go (no d) = number-other d ∙ h
 
-    pub truth-stays : truth_wants M B i e ≡ none → truth_wants M T i e ≡ none
+    pub truth-stays : truth_wants M B i e ≡ None → truth_wants M T i e ≡ None
     truth-stays h = go (ℕ_discrete i n)
       where
-        go : Dec (i ≡ n) → truth_wants M T i e ≡ none
+        go : Dec (i ≡ n) → truth_wants M T i e ≡ None
         go (yes q) = truth-same q h
         go (no d) = truth-other d ∙ h
 
-  pub guards-stay : (i : ℕ) → B.tracked i < 2 ^ M.variables → InRange M (B.state i) → guards_want M B i ≡ none → guards_want M T i ≡ none
+  pub guards-stay : (i : ℕ) → B.tracked i < 2 ^ M.variables → InRange M (B.state i) → guards_want M B i ≡ None → guards_want M T i ≡ None
   unfolding guards_want
   guards-stay i low r h = first-nowhere (λ c. truth_wants M T i (M.guard c)) M.commands (λ c l. truth-stays i low r (M.guard c) (first-none M.commands (λ c. truth_wants M B i (M.guard c)) h c l))
 

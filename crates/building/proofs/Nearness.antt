@@ -1,10 +1,10 @@
 -- A move leaves the repairs of the nodes out of its reach as they were.
 -- Assumes nothing.
+use Rattle.std.specs.Prelude.{Option, None, Some}
 use Prim.Native.Nat.{ℕ, zero, suc, ◌+◌, ◌^◌, ◌<◌, ◌≤◌}
 use mathlib.Core.Path.{◌≡◌, refl, ap, ◌∙◌}
 use mathlib.Core.Logic.{◌⊎◌, inl, inr}
 use mathlib.Core.Bool.{Bool, true, false}
-use mathlib.Core.Option.{Option, none, some}
 use mathlib.Core.List.{[]}
 use native.Mathlib.Nat.{le_step, le_refl}
 use native.Mathlib.Omega.{arith}
@@ -77,9 +77,9 @@ module _ (M : Model) (B C : Building) (i : ℕ) (N : Near M B C i) where
 
   repair-as-same : (κ : Kind) → B.kind i ≡ κ → repair_as M C i κ ≡ repair_as M B i κ
   repair-as-same Kind.waiting k = refl
-  repair-as-same Kind.expanded k = ap (λ (o : Option ℕ). onward o (λ v. some (track i v))) (expanded-same k)
-  repair-as-same Kind.covered k = λ j. pick (covered_same k j) (pick (adopted-same k j) none (some (adopt i))) (some (drop i))
-  repair-as-same Kind.target k = ap (λ (o : Option ℕ). onward o (λ v. some (track i v))) (truth-same M.target)
+  repair-as-same Kind.expanded k = ap (λ (o : Option ℕ). onward o (λ v. Some (track i v))) (expanded-same k)
+  repair-as-same Kind.covered k = λ j. pick (covered_same k j) (pick (adopted-same k j) None (Some (adopt i))) (Some (drop i))
+  repair-as-same Kind.target k = ap (λ (o : Option ℕ). onward o (λ v. Some (track i v))) (truth-same M.target)
 
   pub repair-same : repair M C i ≡ repair M B i
   repair-same = ap (repair_as M C i) N.kind ∙ repair-as-same (B.kind i) refl
@@ -145,5 +145,5 @@ module _ (M : Model) (P : Limit) (B : Building) (K : Kept M P.most B) (i : ℕ) 
   out-of-reach m x = repair-same M B (apply M m B) i (near m x)
 
 -- A node that an expansion makes wants nothing.
-pub new-wants-none : (M : Model) (B : Building) (n i : ℕ) → B.nodes ≤ i → repair M (expanding M n B) i ≡ none
+pub new-wants-none : (M : Model) (B : Building) (n i : ℕ) → B.nodes ≤ i → repair M (expanding M n B) i ≡ None
 new-wants-none M B n i l = ap (repair_as M (expanding M n B) i) (grown-new B.nodes (put n Kind.expanded B.kind) (λ j. Kind.waiting) i l)

@@ -4,7 +4,6 @@
 use Prim.Native.Nat.{ℕ, ◌^◌, ◌<◌}
 use mathlib.Core.Path.{◌≡◌, refl, sym, ap, ◌∙◌, subst}
 use mathlib.Core.Bool.{Bool, true, false}
-use mathlib.Core.Option.{none, some}
 use lib.ListN.{get_or}
 use lib.IntN.{ℤ, pos}
 use Rattle.folder.specs.Pick.{pick}
@@ -17,10 +16,7 @@ use Rattle.expressions.specs.Mentions.{carry_n, carry_t}
 use Rattle.expressions.specs.Right.{IsNumber, IsTruth}
 use Rattle.expressions.specs.Combinations.{Holds, Proper}
 use Rattle.expressions.specs.States.{number_read, truth_read, lacked_by}
-use Rattle.expressions.specs.declared.Number.{Number}
-use Rattle.expressions.specs.declared.Number.TheVariants.{Known, Unknown as Open}
-use Rattle.expressions.specs.declared.Truth.{Truth}
-use Rattle.expressions.specs.declared.Truth.TheVariants.{True, False, Unknown}
+use Rattle.expressions.specs.ThreeWay.{Number, Truth}
 use Rattle.expressions.proofs.Sound.{Says, SaysT}
 use Rattle.expressions.proofs.States.{says-number, says_truth, number-misses, truth-misses}
 use Rattle.expressions.proofs.Relabel.{number_same, truth-same}
@@ -34,23 +30,24 @@ use Rattle.building.specs.Building.{Building, label_by, label_at, as_simulation}
 use Rattle.building.specs.Moves.{wanted_t, wanted_n, truth_wants, number_wants}
 use Rattle.building.proofs.FirstLaws.{nothing}
 use Rattle.building.proofs.SetLaws.{bit-there}
+use Rattle.std.specs.Prelude.{None, Some}
 
 -- ---- wants
-wants-truth : (r : Truth) (x v : ℕ) → wanted_t (carry_t x r) ≡ some v → (r ≡ Unknown) × (x ≡ v)
-wants-truth True x v e = nothing e
-wants-truth False x v e = nothing e
-wants-truth Unknown x v e = (refl, cc)
+wants-truth : (r : Truth) (x v : ℕ) → wanted_t (carry_t x r) ≡ Some v → (r ≡ None) × (x ≡ v)
+wants-truth (Some true) x v e = nothing e
+wants-truth (Some false) x v e = nothing e
+wants-truth None x v e = (refl, cc)
 
-wants-number : (r : Number) (x v : ℕ) → wanted_n (carry_n x r) ≡ some v → (r ≡ Open) × (x ≡ v)
-wants-number (Known z) x v e = nothing e
-wants-number Open x v e = (refl, cc)
+wants-number : (r : Number) (x v : ℕ) → wanted_n (carry_n x r) ≡ Some v → (r ≡ None) × (x ≡ v)
+wants-number (Some z) x v e = nothing e
+wants-number None x v e = (refl, cc)
 
-known-by-truth : {r : Truth} {b : Bool} (x : ℕ) → SaysT r b → wanted_t (carry_t x r) ≡ none → r ≡ known_truth b
+known-by-truth : {r : Truth} {b : Bool} (x : ℕ) → SaysT r b → wanted_t (carry_t x r) ≡ None → r ≡ known_truth b
 known-by-truth x SaysT.known-true e = refl
 known-by-truth x SaysT.known-false e = refl
 known-by-truth x SaysT.open-truth e = nothing (sym e)
 
-known-by-number : {r : Number} {z : ℤ} (x : ℕ) → Says r z → wanted_n (carry_n x r) ≡ none → r ≡ Known z
+known-by-number : {r : Number} {z : ℤ} (x : ℕ) → Says r z → wanted_n (carry_n x r) ≡ None → r ≡ Some z
 known-by-number x Says.known e = refl
 known-by-number x Says.open-number e = nothing (sym e)
 
@@ -74,11 +71,11 @@ module _ (M : Model) (B : Building) (n : ℕ) (small : B.tracked n < 2 ^ M.varia
   H : Holds (label_at M B n) (B.state n)
   H = holds-own M (B.tracked n) (B.state n) small r
 
-  pub truth-none : (e : ℕ) → truth_wants M B n e ≡ none → truth_read M.entries (label_at M B n) e ≡ known_truth (truth_in M.entries (B.state n) e)
+  pub truth-none : (e : ℕ) → truth_wants M B n e ≡ None → truth_read M.entries (label_at M B n) e ≡ known_truth (truth_in M.entries (B.state n) e)
   unfolding truth_wants
   truth-none e h = known-by-truth (lacked_by M.entries (label_at M B n) e) (says_truth M.entries (label_at M B n) P e (B.state n) H) h
 
-  pub number-none : (e : ℕ) → number_wants M B n e ≡ none → number_read M.entries (label_at M B n) e ≡ Known (number_in M.entries (B.state n) e)
+  pub number-none : (e : ℕ) → number_wants M B n e ≡ None → number_read M.entries (label_at M B n) e ≡ Some (number_in M.entries (B.state n) e)
   unfolding number_wants
   number-none e h = known-by-number (lacked_by M.entries (label_at M B n) e) (says-number M.entries (label_at M B n) P e (B.state n) H) h
 
@@ -87,14 +84,14 @@ module _ (M : Model) (B : Building) (n : ℕ) (small : B.tracked n < 2 ^ M.varia
   Wanted v = (v < M.variables) × (has_bit (B.tracked n) v ≡ false)
 
   module _ (X : ModelRight M) (e v : ℕ) where
-    pub truth-wanted : IsTruth M.entries e → truth_wants M B n e ≡ some v → Wanted v
+    pub truth-wanted : IsTruth M.entries e → truth_wants M B n e ≡ Some v → Wanted v
     unfolding truth_wants
     truth-wanted i h =
         let w = wants-truth (truth_read M.entries (label_at M B n) e) (lacked_by M.entries (label_at M B n) e) v h in
         let low = truth-misses M.entries (label_at M B n) P e X.entries i w.0 in
         subst Wanted w.1 (low.there, low.untracked)
 
-    pub number-wanted : IsNumber M.entries e → number_wants M B n e ≡ some v → Wanted v
+    pub number-wanted : IsNumber M.entries e → number_wants M B n e ≡ Some v → Wanted v
     unfolding number_wants
     number-wanted i h =
         let w = wants-number (number_read M.entries (label_at M B n) e) (lacked_by M.entries (label_at M B n) e) v h in

@@ -4,7 +4,6 @@ use Prim.Native.Nat.{ℕ, ◌+◌, ◌<◌, ◌≤◌}
 use mathlib.Core.Path.{◌≡◌, refl, sym, ap, ◌∙◌}
 use mathlib.Core.Logic.{◌≢◌}
 use mathlib.Core.Bool.{Bool, true, false, false≢true}
-use mathlib.Core.Option.{none, some}
 use native.Mathlib.Nat.{div-eq_of_lt}
 use native.Mathlib.Omega.{arith}
 use lib.ListN.{length}
@@ -19,8 +18,6 @@ use Rattle.whole.proofs.Order.{eq_z-is}
 use Rattle.whole.specs.Order.{eq_z}
 use Rattle.expressions.specs.Meaning.{State, value_of, number_in, truth_in}
 use Rattle.expressions.specs.Reading.{has_bit, is_true, known_truth}
-use Rattle.expressions.specs.declared.Number.TheVariants.{Known}
-use Rattle.expressions.specs.declared.Truth.TheVariants.{True, False, Unknown}
 use Rattle.expressions.proofs.Missing.{never-known}
 use Rattle.model.specs.Model.{Model, first_record}
 use Rattle.model.specs.Chances.{next}
@@ -36,6 +33,7 @@ use Rattle.building.specs.Kept.{Kept, Mended}
 use Rattle.building.proofs.FirstLaws.{orelse-none, given-none, pick-none, first-none, onward-none}
 use Rattle.building.proofs.OffspringLaws.{before-within}
 use Rattle.building.proofs.ReadLaws.{truth-none, number-none, reads-truth, reads-number}
+use Rattle.std.specs.Prelude.{None, Some}
 
 -- ---- kinds by their numbers
 number-expanded : (κ : Kind) → kind_number κ ≡ 1 → κ ≡ Kind.expanded
@@ -177,32 +175,32 @@ module _ (M : Model) (P : Limit) (B : Building) (K : Kept M P.most B) (F : Mende
   H = as_simulation M B value
 
   -- ---- what wants nothing reads known
-  read-truth : (n : ℕ) → n < B.nodes → (e : ℕ) → truth_wants M B n e ≡ none → truth_of M H n e ≡ known_truth (truth_in M.entries (B.state n) e)
+  read-truth : (n : ℕ) → n < B.nodes → (e : ℕ) → truth_wants M B n e ≡ None → truth_of M H n e ≡ known_truth (truth_in M.entries (B.state n) e)
   read-truth n l e h = reads-truth M B n (K.small n l) (K.states n l) value e ∙ truth-none M B n (K.small n l) (K.states n l) e h
 
-  read_number : (n : ℕ) → n < B.nodes → (e : ℕ) → number_wants M B n e ≡ none → number_of M H n e ≡ Known (number_in M.entries (B.state n) e)
+  read_number : (n : ℕ) → n < B.nodes → (e : ℕ) → number_wants M B n e ≡ None → number_of M H n e ≡ Some (number_in M.entries (B.state n) e)
   read_number n l e h = reads-number M B n (K.small n l) (K.states n l) value e ∙ number-none M B n (K.small n l) (K.states n l) e h
 
   -- ---- what an expanded node, a target and a covered node want
   module _ (n : ℕ) (l : n < B.nodes) (k : B.kind n ≡ Kind.expanded) where
-    wants-none : expanded_wants M B n ≡ none
+    wants-none : expanded_wants M B n ≡ None
     wants-none = onward-none (expanded_wants M B n) (λ v. track n v) (ap (repair_as M B n) (sym k) ∙ F n l)
 
-    guards_none : guards_want M B n ≡ none
+    guards_none : guards_want M B n ≡ None
     guards_none = (orelse-none (guards_want M B n) (truth_wants M B n M.target orelse results_want M B n) wants-none).0
 
-    later-none : (truth_wants M B n M.target ≡ none) × (results_want M B n ≡ none)
+    later-none : (truth_wants M B n M.target ≡ None) × (results_want M B n ≡ None)
     later-none = orelse-none (truth_wants M B n M.target) (results_want M B n) (orelse-none (guards_want M B n) (truth_wants M B n M.target orelse results_want M B n) wants-none).1
 
     guard-read : (c : ℕ) → c < M.commands → truth_of M H n (M.guard c) ≡ known_truth (enabled M (B.state n) c)
     unfolding guards_want
     guard-read c h = read-truth n l (M.guard c) (first-none M.commands (λ c. truth_wants M B n (M.guard c)) guards_none c h)
 
-    target-read : truth_of M H n M.target ≡ False
+    target-read : truth_of M H n M.target ≡ (Some false)
     target-read = read-truth n l M.target later-none.0 ∙ ap known_truth (K.parents n l k).no_target
 
     result-read : (c : ℕ) → c < M.commands → enabled M (B.state n) c ≡ true → (b : ℕ) → b < M.branches c → (v : ℕ) → v < M.variables → has_bit (B.tracked (child_by M B n c b)) v ≡ true
-        → number_of M H n (M.assigned (first_record M c + b) v) ≡ Known (number_in M.entries (B.state n) (M.assigned (first_record M c + b) v))
+        → number_of M H n (M.assigned (first_record M c + b) v) ≡ Some (number_in M.entries (B.state n) (M.assigned (first_record M c + b) v))
     unfolding results_want result_wants
     result-read c h e b q v p t =
         let x = given-none (enabled M (B.state n) c) (first (M.branches c) (result_wants M B n c)) (first-none M.commands (λ c. given (enabled M (B.state n) c) (first (M.branches c) (result_wants M B n c))) later-none.1 c h) e in
@@ -210,14 +208,14 @@ module _ (M : Model) (P : Limit) (B : Building) (K : Kept M P.most B) (F : Mende
         let z = first-none M.variables (λ v. given (has_bit (B.tracked (child_by M B n c b)) v) (number_wants M B n (M.assigned (first_record M c + b) v))) y v p in
         read_number n l (M.assigned (first_record M c + b) v) (given-none (has_bit (B.tracked (child_by M B n c b)) v) (number_wants M B n (M.assigned (first_record M c + b) v)) z t)
 
-  reached-read : (n : ℕ) → n < B.nodes → B.kind n ≡ Kind.target → truth_of M H n M.target ≡ True
+  reached-read : (n : ℕ) → n < B.nodes → B.kind n ≡ Kind.target → truth_of M H n M.target ≡ (Some true)
   reached-read n l k =
       read-truth n l M.target (onward-none (truth_wants M B n M.target) (λ v. track n v) (ap (repair_as M B n) (sym k) ∙ F n l))
       ∙ ap known_truth (K.targets n l k)
 
   module _ (n : ℕ) (l : n < B.nodes) (k : B.kind n ≡ Kind.covered) where
-    cover-none : (covered M B n ≡ true) × (pick (adopted M B n) none (some (adopt n)) ≡ none)
-    cover-none = pick-none (covered M B n) (pick (adopted M B n) none (some (adopt n))) (drop n) (ap (repair_as M B n) (sym k) ∙ F n l)
+    cover-none : (covered M B n ≡ true) × (pick (adopted M B n) None (Some (adopt n)) ≡ None)
+    cover-none = pick-none (covered M B n) (pick (adopted M B n) None (Some (adopt n))) (drop n) (ap (repair_as M B n) (sym k) ∙ F n l)
 
     cover-agrees : (v : ℕ) → v < M.variables → has_bit (B.tracked (B.cover n)) v ≡ true → value_of (B.state (B.cover n)) v ≡ value_of (B.state n) v
     unfolding agrees
@@ -225,7 +223,7 @@ module _ (M : Model) (P : Limit) (B : Building) (K : Kept M P.most B) (F : Mende
 
     cover-tracked : (v : ℕ) → v < M.variables → has_bit (B.tracked (B.cover n)) v ≡ true → has_bit (B.tracked n) v ≡ true
     unfolding adopted
-    cover-tracked v h t = implied (has_bit (B.tracked (B.cover n)) v) (has_bit (B.tracked n) v) (all_true (λ v. implies (has_bit (B.tracked (B.cover n)) v) (has_bit (B.tracked n) v)) M.variables (pick-none (adopted M B n) none (adopt n) cover-none.1).0 v h) t
+    cover-tracked v h t = implied (has_bit (B.tracked (B.cover n)) v) (has_bit (B.tracked n) v) (all_true (λ v. implies (has_bit (B.tracked (B.cover n)) v) (has_bit (B.tracked n) v)) M.variables (pick-none (adopted M B n) None (adopt n) cover-none.1).0 v h) t
 
     -- ---- C1, C2
     cover-same : (v : ℕ) → v < M.variables → tracks H (B.cover n) v ≡ true → value_of (B.state n) v ≡ H.label (B.cover n) v
@@ -243,7 +241,7 @@ module _ (M : Model) (P : Limit) (B : Building) (K : Kept M P.most B) (F : Mende
   c2 n l e = let k = number-covered (B.kind n) e in rw (cover-is M P B K value n l k) (cover-adopted n l k)
 
   -- ---- the rules that read
-  known-not-unknown : (b : Bool) → known_truth b ≢ Unknown
+  known-not-unknown : (b : Bool) → known_truth b ≢ None
   known-not-unknown b e = never-known b (sym e)
 
   pub a2 : (n : ℕ) → n < H.nodes → RightA2 M H (by_states M H) n
@@ -266,7 +264,7 @@ module _ (M : Model) (P : Limit) (B : Building) (K : Kept M P.most B) (F : Mende
       let a = edge-at M P B K value n l k e h in
       record {
         concrete = λ v p. rw (state-is M P B K value n l) (child-value M P B K value n l k e h b q v p);
-        label = λ v p t. result-read n l k (H.command n e) a.small a.passes b q v p t ∙ ap Known (sym (label_is M P B K value (H.successor n e b) v p t ∙ child-value M P B K value n l k e h b q v p));
+        label = λ v p t. result-read n l k (H.command n e) a.small a.passes b q v p t ∙ ap Some (sym (label_is M P B K value (H.successor n e b) v p t ∙ child-value M P B K value n l k e h b q v p));
       }
 
   pub rules-right : ((n : ℕ) → n < H.nodes → RightValue M H value n) → RulesRight M H (by_states M H)

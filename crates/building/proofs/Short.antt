@@ -1,8 +1,8 @@
 -- A graph that is built within a length limit is no longer.
 -- Assumes nothing.
+use Rattle.std.specs.Prelude.{Option, None, Some}
 use Prim.Native.Nat.{ℕ, zero, suc, ◌+◌, ◌^◌, ◌≤◌}
 use mathlib.Core.Path.{◌≡◌, refl, ap, ◌∙◌}
-use mathlib.Core.Option.{Option, none, some}
 use native.Mathlib.Omega.{arith}
 use Rattle.mdp.specs.Kinds.{Kind}
 use Rattle.model.specs.Model.{Model}
@@ -36,8 +36,8 @@ module _ (M : Model) (P : Limit) where
 
   module _ (X : ModelRight M) where
     advance-by : (B : Building) → Kept M P.most B → graph_length M B ≤ P.longest → (o : Option Move) → next_move M P B ≡ o → graph_length M (moved M o B) ≤ P.longest
-    advance-by B K h none e = h
-    advance-by B K h (some m) e = short-kept B m (next-apt M P X B K m e) h
+    advance-by B K h None e = h
+    advance-by B K h (Some m) e = short-kept B m (next-apt M P X B K m e) h
 
     after-short : (k : ℕ) (B : Building) → Kept M P.most B → graph_length M B ≤ P.longest → graph_length M (after M P k B) ≤ P.longest
     unfolding after advance

@@ -1,10 +1,10 @@
 -- Every move keeps what the builder knows besides the graph.
 -- Assumes nothing.
+use Rattle.std.specs.Prelude.{None}
 use Prim.Native.Nat.{ℕ, ◌+◌, ◌-◌, ◌^◌, ◌<◌, ◌≤◌}
 use mathlib.Core.Path.{◌≡◌, refl, sym, ap, ◌∙◌, subst}
 use mathlib.Core.Logic.{◌⊎◌, inl, inr, ⊎_elim}
 use mathlib.Core.Bool.{Bool, true, false, false≢true, ◌&&◌}
-use mathlib.Core.Option.{none}
 use mathlib.Core.List.{[]}
 use native.Mathlib.Decide.{dec_lt, ℕ_discrete}
 use native.Mathlib.Omega.{arith}
@@ -136,7 +136,7 @@ module _ (M : Model) (B : Building) (n : ℕ) (κ : Kind) (c : ℕ) (later : κ 
       → MarkRight M U later low' high'
   mark-becoming P K m same reach {mark} {later} R step below above = record { is = λ i l z. go i l z (ℕ_discrete i n); below = below; above = above }
     where
-      go : (i : ℕ) → i < B.nodes → later i ≡ 0 → Dec (i ≡ n) → repair M U i ≡ none
+      go : (i : ℕ) → i < B.nodes → later i ≡ 0 → Dec (i ≡ n) → repair M U i ≡ None
       go i l z (yes q) = ap (repair_as M U i) (put-at n κ B.kind i q ∙ (step i l z).0 q)
       go i l z (no d) = ap (λ (C : Building). repair M C i) (sym same) ∙ out-of-reach M P B K i l m (reach i d) ∙ R.is i l ((step i l z).1 d)
 
@@ -194,7 +194,7 @@ module _ (M : Model) (P : Limit) (B : Building) (K : Kept M P.most B) (n : ℕ) 
   -- New nodes have nothing read.
   module _ {read later : ℕ → ℕ} (old : (i : ℕ) → i < B.nodes → later i ≡ read i) (new : (j : ℕ) → j < births M (B.state n) → later (B.nodes + j) ≡ 0) (R : ReadRight M B read) where
     abbrev Reads : ℕ → ℕ → ℕ → ℕ → Type 0
-    Reads i c b v = has_bit (later (child_by M E i c b)) v ≡ true → number_wants M E i (M.assigned (first_record M c + b) v) ≡ none
+    Reads i c b v = has_bit (later (child_by M E i c b)) v ≡ true → number_wants M E i (M.assigned (first_record M c + b) v) ≡ None
 
     read-old : (i : ℕ) → i < B.nodes → (i ≡ n → ⊥) → B.kind i ≡ Kind.expanded → (c : ℕ) → c < M.commands → enabled M (B.state i) c ≡ true → (b : ℕ) → b < M.branches c → (v : ℕ) → Reads i c b v
     read-old i l d k c h e b q v x =
@@ -278,7 +278,7 @@ module _ (M : Model) (P : Limit) (B : Building) (K : Kept M P.most B) (n : ℕ) 
       → ((i : ℕ) → i < low' → later i ≡ 0) → ((i : ℕ) → high' ≤ i → later i ≡ 0) → MarkRight M E later low' high'
   mark-expanding {mark} {later} R step below above = record { is = λ i l z. go i z (dec_lt i B.nodes); below = below; above = above }
     where
-      go : (i : ℕ) → later i ≡ 0 → Dec (i < B.nodes) → repair M E i ≡ none
+      go : (i : ℕ) → later i ≡ 0 → Dec (i < B.nodes) → repair M E i ≡ None
       go i z (yes l) = out-of-reach M P B K i l (expand n) (step i l z).0 ∙ R.is i l (step i l z).1
       go i z (no g) = new-wants-none M B n i (omega arith)
 

@@ -1,7 +1,6 @@
 -- What every move of the builder keeps; what the next move may count on; and a graph that wants no repair.
 -- Assumes nothing.
-use Rattle.std.specs.Prelude.{ℕ, ◌+◌, ◌^◌, ◌<◌, ◌≤◌, ◌≡◌, true, false, []}
-use Rattle.std.proofs.Math.Option.{none}
+use Rattle.std.specs.Prelude.{ℕ, ◌+◌, ◌^◌, ◌<◌, ◌≤◌, ◌≡◌, true, false, [], None}
 use Rattle.mdp.specs.Kinds.{Kind}
 use Rattle.expressions.specs.Meaning.{State, truth_in}
 use Rattle.expressions.specs.Reading.{has_bit}
@@ -66,4 +65,4 @@ module _ (M : Model) where
 
   -- No rule is broken.
   abbrev pub Mended : Building → Type 0
-  Mended B = (n : ℕ) → n < B.nodes → repair M B n ≡ none
+  Mended B = (n : ℕ) → n < B.nodes → repair M B n ≡ None

@@ -1,7 +1,6 @@
 -- Document 02, 2.5: how a graph is built, one move after the other.
 -- Assumes nothing.
-use Rattle.std.specs.Prelude.{ℕ, zero, suc, ◌+◌, ◌^◌, Bool, ◌&&◌, [], get_or, leb}
-use Rattle.std.proofs.Math.Option.{Option, none, some}
+use Rattle.std.specs.Prelude.{ℕ, zero, suc, ◌+◌, ◌^◌, Bool, true, false, ◌&&◌, [], get_or, leb, Err, Ok, Option, None, Some}
 use Rattle.mdp.specs.Kinds.{Kind}
 use Rattle.folder.specs.Pick.{pick, implies}
 use Rattle.folder.specs.Scan.{all}
@@ -9,10 +8,7 @@ use Rattle.expressions.specs.Meaning.{truth_in}
 use Rattle.expressions.specs.Reading.{has_bit}
 use Rattle.expressions.specs.Mentions.{union}
 use Rattle.expressions.specs.States.{number_told, truth_told}
-use Rattle.expressions.specs.declared.NumberReading.{NumberReading}
-use Rattle.expressions.specs.declared.NumberReading.TheVariants as NR
-use Rattle.expressions.specs.declared.TruthReading.{TruthReading}
-use Rattle.expressions.specs.declared.TruthReading.TheVariants as TR
+use Rattle.expressions.specs.ThreeWay.{NumberReading, TruthReading}
 use Rattle.model.specs.Model.{Model, first_record}
 use Rattle.model.specs.Chances.{initial_state}
 use Rattle.building.specs.First.{◌orelse◌, given, onward, first, put, grown}
@@ -75,20 +71,20 @@ module _ (M : Model) where
 
 -- The variable that an unknown reading lacks (2.2).
 abbrev pub wanted_t : TruthReading → Option ℕ
-wanted_t TR.True = none
-wanted_t TR.False = none
-wanted_t (TR.Lacks v) = some v
+wanted_t (Ok true) = None
+wanted_t (Ok false) = None
+wanted_t (Err v) = Some v
 
 abbrev pub wanted_n : NumberReading → Option ℕ
-wanted_n (NR.Known z) = none
-wanted_n (NR.Lacks v) = some v
+wanted_n (Ok z) = None
+wanted_n (Err v) = Some v
 
 -- A node that waits.
 abbrev pub waits : Kind → ℕ → Option ℕ
-waits Kind.waiting n = some n
-waits Kind.expanded n = none
-waits Kind.covered n = none
-waits Kind.target n = none
+waits Kind.waiting n = Some n
+waits Kind.expanded n = None
+waits Kind.covered n = None
+waits Kind.target n = None
 
 module _ (M : Model) (B : Building) where
   -- Of node n's label: what entry e wants as a truth, and as a number.
@@ -122,10 +118,10 @@ module _ (M : Model) (B : Building) where
 
   -- The repair of node n's first broken rule, if it has one.
   abbrev pub repair_as : ℕ → Kind → Option Move
-  repair_as n Kind.waiting = none
-  repair_as n Kind.expanded = onward (expanded_wants n) (λ v. some (track n v))
-  repair_as n Kind.covered = pick (covered n) (pick (adopted n) none (some (adopt n))) (some (drop n))
-  repair_as n Kind.target = onward (truth_wants n M.target) (λ v. some (track n v))
+  repair_as n Kind.waiting = None
+  repair_as n Kind.expanded = onward (expanded_wants n) (λ v. Some (track n v))
+  repair_as n Kind.covered = pick (covered n) (pick (adopted n) None (Some (adopt n))) (Some (drop n))
+  repair_as n Kind.target = onward (truth_wants n M.target) (λ v. Some (track n v))
 
   abbrev pub repair : ℕ → Option Move
   repair n = repair_as n (B.kind n)
@@ -138,7 +134,7 @@ module _ (M : Model) (B : Building) where
   can_cover n c = is_open (B.kind c) && contains M B c (B.state n)
 
   unfoldable pub lowest_cover : ℕ → Option ℕ
-  lowest_cover n = first B.nodes (λ c. given (can_cover n c) (some c))
+  lowest_cover n = first B.nodes (λ c. given (can_cover n c) (Some c))
 
 -- How many nodes and how many bytes there may be.
 pub record Limit : Type 0 where
@@ -151,11 +147,11 @@ module _ (M : Model) (P : Limit) (B : Building) where
   room n = leb (B.nodes + births M (B.state n)) P.most && leb (length_with M B n) P.longest
 
   unfoldable pub opening : ℕ → Option Move
-  opening n = pick (truth_in M.entries (B.state n) M.target) (some (reach n)) (given (room n) (some (expand n)))
+  opening n = pick (truth_in M.entries (B.state n) M.target) (Some (reach n)) (given (room n) (Some (expand n)))
 
   -- What becomes of node n, which waits.
   abbrev pub growth : ℕ → Option Move
-  growth n = onward (lowest_cover M B n) (λ c. some (cover_by n c)) orelse opening n
+  growth n = onward (lowest_cover M B n) (λ c. Some (cover_by n c)) orelse opening n
 
   -- While a rule is broken, the lowest node with one has its first repaired; then the lowest waiting node goes on.
   unfoldable pub next_move : Option Move
@@ -163,8 +159,8 @@ module _ (M : Model) (P : Limit) (B : Building) where
 
 -- Building: the next move, as long as there is one.
 abbrev pub moved : Model → Option Move → Building → Building
-moved M none B = B
-moved M (some m) B = apply M m B
+moved M None B = B
+moved M (Some m) B = apply M m B
 
 module _ (M : Model) (P : Limit) where
   unfoldable pub advance : Building → Building

@@ -3,15 +3,16 @@
 
 #![tactic(auto)]
 
-use clamped::{add, long};
+use clamped::{front, long};
 use folder::Refusal;
 use graph::Summary;
-use lookup::{MOST_NUMBERS, index_case};
-use samples::build::{asked, change, due, find, fold, fold_from, head, holds, letter, part};
+use lookup::index_case;
+use samples::build::{MOST_NUMBERS, Numbers, fold, holds, split};
+use solver::{Asked, Folders};
 use std::io;
 use std::io::Read;
-use tally::{PLACE, TALLY, WRONG, close_group, hold, judge, outcome_of, say};
-use witness::{box_steps, build_case, figure_case, summary_case, zero_step};
+use tally::{Run, answer_at};
+use witness::{Built, box_steps, build_case, figure_case, summary_case, zero_step};
 
 // The longest model and the longest graph, and one byte more of each.
 const MODEL_ROOM: usize = 40000 + 1;
@@ -26,223 +27,260 @@ const ROOM: usize = MODEL_ROOM + GRAPH_ROOM;
 // Bytes for the script.
 const SCRIPT_ROOM: usize = 65536;
 
-// Where the model and the graph in the room end.
+// Numbers of an index line before its batch.
+const ROWS: usize = 3;
+
+// How long the model and the graph in the room are.
 #[derive(Clone, Copy)]
-struct Folders {
+struct Lengths {
     model: usize,
     graph: usize,
 }
 
-fn wide(x: u32) -> usize {
-    x as usize
+// The bytes from `from` on, as far as there are any.
+fn past(s: &[u8], from: usize) -> &[u8] {
+    s.get(from..).unwrap_or(&[])
 }
 
-fn unit(s: &[u32], k: usize) -> usize {
-    if k < s.len() { wide(s[k]) } else { 0 }
+fn past_mut(s: &mut [u8], from: usize) -> &mut [u8] {
+    let from = from.min(s.len());
+    &mut s[from..]
 }
 
-// The first figure of a row that is not as due; where only the lengths differ 31, and 32 where nothing does.
-fn unlike(row: &[u32], d: &[usize; 32]) -> usize {
-    let mut i = 0;
-    while i < 31 {
-        if unit(row, i) != d[i] {
-            return i;
+impl Lengths {
+    fn folders<'a>(self, room: &'a [u8]) -> Folders<'a> {
+        Folders {
+            model: front(room, self.model),
+            graph: front(past(room, GRAPH), self.graph),
         }
-        i += 1;
     }
-    if row.len() == d[31] { 32 } else { 31 }
+
+    // Of the folders that a line asks about: some name a length.
+    fn named(self, kind: u8, length: usize) -> Lengths {
+        match kind {
+            b'z' | b'v' => Lengths {
+                model: length,
+                ..self
+            },
+            b'Z' => Lengths {
+                graph: length,
+                ..self
+            },
+            _ => self,
+        }
+    }
 }
 
-fn row_case(
-    rt: &impl Print,
-    t: &mut [usize; TALLY],
-    m: &[u8],
-    g: &[u8],
-    h: usize,
-    d: &[usize; 32],
-) -> io::Result<()> {
+fn figure_at(row: &[u32], k: usize) -> usize {
+    row.get(k).map_or(0, |x| *x as usize)
+}
+
+// Figures that are not as due: where one is not, it is told, and else how many there are.
+fn row_case<R: Print>(run: &mut Run<R>, f: Folders, h: usize, due: &[usize]) -> io::Result<()> {
     let mut first = [9u32; 8];
     let mut second = [9u32; 8];
-    let row = laguipy::figure(m, g, h, &mut first, &mut second);
-    let i = unlike(row, d);
-    hold(rt, t, i == 32, i, unit(row, i))
+    let row = laguipy::figure(f.model, f.graph, h, &mut first, &mut second);
+    let same = row
+        .iter()
+        .zip(due)
+        .take_while(|(x, y)| **x as usize == **y)
+        .count();
+    run.hold(
+        same == row.len() && same == due.len(),
+        same,
+        figure_at(row, same),
+    )
 }
 
-fn summary_due(d: &[usize; 32]) -> Summary {
+fn summary_of(d: [usize; 5]) -> Summary {
+    let [root, expanded, covered, target, waiting] = d;
     Summary {
-        root: d[0],
-        expanded: d[1],
-        covered: d[2],
-        target: d[3],
-        waiting: d[4],
+        root,
+        expanded,
+        covered,
+        target,
+        waiting,
     }
 }
 
-// By the plain call and by the struct.
-fn record_case(
-    rt: &impl Print,
-    t: &mut [usize; TALLY],
-    m: &[u8],
-    e: usize,
-    i: usize,
-    d: &[usize; 32],
-) -> io::Result<()> {
-    let plain = laguipy::record_part(m, e, i);
-    let held = view::record_of(m, e, i);
-    let right = holds(plain, d) & holds(held, d);
-    hold(rt, t, right, plain.len(), long(plain, 0))
-}
-
-// FNV-1a of the bytes that a line names, step by step.
-fn hash_of(a: &[usize; 32]) -> u32 {
-    let mut h = hash::FNV_START;
-    let mut i = 0;
-    while i < MOST_NUMBERS {
-        if i < a[MOST_NUMBERS] {
-            h = hash::fnv_step(h, (a[i] % 256) as u8);
-        }
-        i += 1;
-    }
-    h
-}
-
-fn hash_case(
-    rt: &impl Print,
-    t: &mut [usize; TALLY],
-    a: &[usize; 32],
-    d: &[usize; 32],
-) -> io::Result<()> {
-    let h = wide(hash_of(a));
-    hold(rt, t, h == d[0], h, 0)
-}
-
-// Lines whose answer is no refusal.
-fn value_case(
-    rt: &impl Print,
-    t: &mut [usize; TALLY],
-    m: &[u8],
-    g: &[u8],
-    kind: u8,
-    a: &[usize; 32],
-    d: &[usize; 32],
-) -> io::Result<()> {
-    match kind {
-        b'r' => row_case(rt, t, m, g, a[0], d),
-        b'c' => summary_case(rt, t, m, g, summary_due(d)),
-        b'v' => record_case(rt, t, m, a[1], a[2], d),
-        b'h' => hash_case(rt, t, a, d),
-        _ => hold(rt, t, false, 0, 0),
-    }
+fn summary_due(d: &Numbers) -> Summary {
+    let d = &d.each;
+    summary_of([d[0], d[1], d[2], d[3], d[4]])
 }
 
 // The answer that a line has as due.
-fn answer_due(d: &[usize; 32]) -> Refusal {
-    Refusal {
-        number: d[0],
-        place: d[1],
-        second: d[2],
-    }
+fn answer_due(d: &Numbers) -> Result<(), Refusal> {
+    let d = &d.each;
+    answer_at(d[0], d[1], d[2])
 }
 
-fn asked_case(
-    rt: &impl Print,
-    t: &mut [usize; TALLY],
-    room: &[u8],
+// A line's answer of the build call has no second place: what stands there is the length of the graph built.
+fn built_due(d: &Numbers) -> Result<Built, Refusal> {
+    let d = &d.each;
+    answer_at(d[0], d[1], 0)?;
+    Ok(Built {
+        length: d[2],
+        summary: summary_of([d[3], d[4], d[5], d[6], d[7]]),
+    })
+}
+
+// By the plain call and by the struct.
+fn record_case<R: Print>(
+    run: &mut Run<R>,
+    m: &[u8],
+    e: usize,
+    i: usize,
+    due: &[usize],
+) -> io::Result<()> {
+    let plain = laguipy::record_part(m, e, i);
+    let held = view::record_of(m, e, i);
+    run.hold(
+        holds(plain, due) && holds(held, due),
+        plain.len(),
+        long(plain, 0),
+    )
+}
+
+// FNV-1a of the bytes that a line names, step by step.
+fn hash_of(bytes: &[usize]) -> u32 {
+    bytes.iter().fold(hash::FNV_START, |h, b| hash::fnv_step(h, (*b % 256) as u8))
+}
+
+// Lines whose answer is no refusal.
+fn value_case<R: Print>(
+    run: &mut Run<R>,
     f: Folders,
     kind: u8,
-    a: &[usize; 32],
-    d: &[usize; 32],
+    asked: &Numbers,
+    due: &Numbers,
 ) -> io::Result<()> {
-    let m = head(room, f.model);
-    let g = part(room, GRAPH, f.graph);
+    let a = &asked.each;
     match kind {
-        b'm' | b'z' => judge(rt, t, laguipy::model_check(m), answer_due(d)),
-        b'g' | b'Z' => judge(rt, t, outcome_of(laguipy::graph_check(m, g)), answer_due(d)),
-        b'f' => figure_case(rt, t, m, g, a, answer_due(d)),
-        b'i' => index_case(rt, t, m, g, a, answer_due(d)),
-        b'B' => build_case(rt, t, m, a[0], a[1], d),
-        b's' => zero_step(rt, t, m, a[1], a[0], a[2], a[3]),
-        b'b' => box_steps(rt, t, m),
-        _ => value_case(rt, t, m, g, kind, a, d),
+        b'r' => row_case(run, f, a[0], due.written()),
+        b'c' => summary_case(run, f, summary_due(due)),
+        b'v' => record_case(run, f.model, a[1], a[2], due.written()),
+        b'h' => {
+            let h = hash_of(asked.written()) as usize;
+            run.hold(h == due.each[0], h, 0)
+        }
+        _ => run.hold(false, 0, 0),
     }
 }
 
-// The folders that a line asks about: some name a length.
-fn named(f: Folders, kind: u8, length: usize) -> Folders {
+fn index_line<R: Print>(
+    run: &mut Run<R>,
+    f: Folders,
+    asked: &Numbers,
+    due: &Numbers,
+) -> io::Result<()> {
+    let a = &asked.each;
+    let batch = asked.written().get(ROWS..).unwrap_or(&[]);
+    index_case(run, f, [a[0], a[1], a[2]], batch, answer_due(due))
+}
+
+fn step_asked(asked: &Numbers) -> Asked {
+    let a = &asked.each;
+    Asked {
+        room: a[0],
+        values: a[1],
+        command: a[2],
+        branch: a[3],
+    }
+}
+
+// The letters are those of the script's lines, which its head explains: each stands in one place here, and a type with a
+// name for each would only be one list more.
+fn asked_case<R: Print>(
+    run: &mut Run<R>,
+    f: Folders,
+    kind: u8,
+    asked: &Numbers,
+    due: &Numbers,
+) -> io::Result<()> {
+    let a = &asked.each;
     match kind {
-        b'z' | b'v' => Folders {
-            model: length,
-            graph: f.graph,
-        },
-        b'Z' => Folders {
-            model: f.model,
-            graph: add(GRAPH, length),
-        },
-        _ => f,
+        b'm' | b'z' => run.judge(laguipy::model_check(f.model), answer_due(due)),
+        b'g' | b'Z' => {
+            let o = laguipy::graph_check(f.model, f.graph).map(|_| ());
+            run.judge(o, answer_due(due))
+        }
+        b'f' => figure_case(run, f, a[0], a[1], a[2], answer_due(due)),
+        b'i' => index_line(run, f, asked, due),
+        b'B' => build_case(run, f.model, a[0], a[1], built_due(due)),
+        b's' => zero_step(run, f.model, step_asked(asked)),
+        b'b' => box_steps(run, f.model),
+        _ => value_case(run, f, kind, asked, due),
+    }
+}
+
+// Where a line's changes are, and after how many of its numbers they begin.
+fn changes(kind: u8) -> (usize, usize) {
+    match kind {
+        b'm' => (0, 0),
+        b'g' => (GRAPH, 0),
+        b'f' => (GRAPH, 3),
+        _ => (0, MOST_NUMBERS),
     }
 }
 
 // The changes that a line names are made for it, and then undone.
-fn case(
-    rt: &impl Print,
-    t: &mut [usize; TALLY],
+fn case<R: Print>(
+    run: &mut Run<R>,
     room: &mut [u8],
-    f: Folders,
+    lengths: Lengths,
     kind: u8,
     body: &[u8],
 ) -> io::Result<()> {
-    let a = asked(body);
-    let d = due(body);
-    let base = if kind == b'm' { 0 } else { GRAPH };
-    let from = match kind {
-        b'm' | b'g' => 0,
-        b'f' => 3,
-        _ => 31,
-    };
-    let saved = change(room, base, from, &a);
-    asked_case(rt, t, room, named(f, kind, a[0]), kind, &a, &d)?;
-    change(room, base, from, &saved);
+    let (asked, due) = Numbers::asked_and_due(body);
+    let (base, from) = changes(kind);
+    let mut changed = asked;
+    changed.change(room, base, from);
+    let f = lengths.named(kind, asked.each[0]).folders(room);
+    asked_case(run, f, kind, &asked, &due)?;
+    changed.change(room, base, from);
     Ok(())
 }
 
 // A line, with its end; the folders after it.
-fn line(
-    rt: &impl Print,
-    t: &mut [usize; TALLY],
+fn line<R: Print>(
+    run: &mut Run<R>,
     room: &mut [u8],
-    f: Folders,
+    lengths: Lengths,
     text: &[u8],
-) -> io::Result<Folders> {
-    let body = part(text, 2, find(text, 0, b';'));
-    let mut after = f;
-    let kind = letter(text, 0);
-    match kind {
-        0 | b'\n' | b'#' => (),
-        b'=' => close_group(rt, t, body)?,
-        b'M' => after.model = fold(room, 5, body),
-        b'G' => after.graph = add(GRAPH, fold_from(room, GRAPH, 2, body)),
-        _ => case(rt, t, room, f, kind, body)?,
+) -> io::Result<Lengths> {
+    let (line, _name) = split(text, b';');
+    let body = past(line, 2);
+    let mut after = lengths;
+    match text.first().copied() {
+        None | Some(b'\n' | b'#') => (),
+        Some(b'=') => run.close_group(body)?,
+        Some(b'M') => after.model = fold(room, 5, body),
+        Some(b'G') => after.graph = fold(past_mut(room, GRAPH), 2, body),
+        Some(kind) => case(run, room, lengths, kind, body)?,
     }
     Ok(after)
 }
 
-fn tell(rt: &impl Print, wrong: bool, text: &[u8]) -> io::Result<()> {
-    if wrong { say(rt, text) } else { Ok(()) }
+// A line that is wrong is told after what was wrong of it.
+fn told_line<R: Print>(
+    run: &mut Run<R>,
+    room: &mut [u8],
+    lengths: Lengths,
+    text: &[u8],
+) -> io::Result<Lengths> {
+    let before = run.wrong();
+    let after = line(run, room, lengths, text)?;
+    if run.wrong() != before {
+        run.say(text)?;
+    }
+    Ok(after)
 }
 
-fn run(rt: &impl Print, t: &mut [usize; TALLY], room: &mut [u8], script: &[u8]) -> io::Result<()> {
-    let mut f = Folders { model: 0, graph: 0 };
-    let mut at = 0;
-    let mut i = 0;
-    while i < script.len() {
-        t[PLACE] = i + 1;
-        let before = t[WRONG];
-        let next = add(find(script, at, b'\n'), 1);
-        let text = part(script, at, next);
-        f = line(rt, t, room, f, text)?;
-        tell(rt, t[WRONG] != before, text)?;
-        at = next;
-        i += 1;
+fn run_script<R: Print>(run: &mut Run<R>, room: &mut [u8], script: &[u8]) -> io::Result<()> {
+    let mut lengths = Lengths { model: 0, graph: 0 };
+    for (i, text) in script.split_inclusive(|c| *c == b'\n').enumerate() {
+        run.go_to(i.saturating_add(1));
+        lengths = told_line(run, room, lengths, text)?;
     }
     Ok(())
 }
@@ -250,6 +288,7 @@ fn run(rt: &impl Print, t: &mut [usize; TALLY], room: &mut [u8], script: &[u8]) 
 // Reads until the input ends or the buffer is full; how many bytes.
 fn read_full(input: &mut impl Read, buf: &mut [u8]) -> io::Result<usize> {
     let mut at = 0;
+    // No loop over a range: each turn goes on by as many bytes as came.
     while at < buf.len() {
         let n = input.read(&mut buf[at..])?;
         if n == 0 {
@@ -261,21 +300,20 @@ fn read_full(input: &mut impl Read, buf: &mut [u8]) -> io::Result<usize> {
 }
 
 // A script that fills its room may have been cut: that is wrong, at line 0.
-fn start(
-    rt: &(impl Print + Input),
-    t: &mut [usize; TALLY],
+fn start<R: Print + Input>(
+    rt: &R,
     room: &mut [u8; ROOM],
     script: &mut [u8; SCRIPT_ROOM],
 ) -> io::Result<()> {
     let n = read_full(&mut rt.reader(), script)?;
-    hold(rt, t, n < SCRIPT_ROOM, n, 0)?;
-    run(rt, t, room, head(script, n))
+    let mut run = Run::new(rt);
+    run.hold(n < SCRIPT_ROOM, n, 0)?;
+    run_script(&mut run, room, front(script, n))?;
+    run.say_table()
 }
 
 fn main(rt: HostRuntime) -> io::Result<()> {
-    let mut t = [0; TALLY];
     let mut room = [0; ROOM];
     let mut script = [0; SCRIPT_ROOM];
-    start(&rt, &mut t, &mut room, &mut script)?;
-    tally::say_table(&rt, &t)
+    start(&rt, &mut room, &mut script)
 }

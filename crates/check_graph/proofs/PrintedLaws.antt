@@ -11,25 +11,24 @@ use Rattle.text.specs.Text.{ascii, written, Holds}
 use Rattle.text.proofs.TextLaws.{holds-none, holds_more}
 use Rattle.report.specs.Room.{text_room}
 use Rattle.report.specs.Report.{no_file, too_long}
-use Rattle.check_graph.specs.declared.Reading.{Reading}
-use Rattle.check_graph.specs.declared.Reading.TheVariants.{Failed, Bytes}
+use Rattle.std.specs.Prelude.{Option, None, Some}
 use Rattle.check_graph.specs.Printed.{most_read, file_text, Within}
 
-pub read-within : {r : Reading} {n : ℕ} (at : ℕ) (buffer : List ℕ)
-    → Within r at buffer → r ≡ Bytes n → at + n ≤ length buffer
-read-within at buffer h e = subst (λ (q : Reading). Within q at buffer) e h
+pub read-within : {r : Option ℕ} {n : ℕ} (at : ℕ) (buffer : List ℕ)
+    → Within r at buffer → r ≡ Some n → at + n ≤ length buffer
+read-within at buffer h e = subst (λ (q : Option ℕ). Within q at buffer) e h
 
-module _ {out out' : List ℕ} {k : ℕ} (r : Reading) (buffer : List ℕ) (text : List ℕ → List ℕ) where
+module _ {out out' : List ℕ} {k : ℕ} (r : Option ℕ) (buffer : List ℕ) (text : List ℕ → List ℕ) where
   -- A line alone, as it is put.
   line : (l : List ℕ) → length l ≤ length out → k ≡ 0 + length l → out' ≡ written out 0 l → Holds out l out' k
   line l room e w = holds_more (holds-none out) l (omega arith) e w
 
-  pub failed-line : r ≡ Failed → text_room ≤ length out → k ≡ 0 + length no_file → out' ≡ written out 0 no_file
+  pub failed-line : r ≡ None → text_room ≤ length out → k ≡ 0 + length no_file → out' ≡ written out 0 no_file
       → Holds out (file_text r buffer text) out' k
   unfolding ascii
   failed-line e room p w = rw e (line no_file (omega arith) p w)
 
-  module _ (n : ℕ) (e : r ≡ Bytes n) where
+  module _ (n : ℕ) (e : r ≡ Some n) where
     pub long-line : most_read < n → text_room ≤ length out → k ≡ 0 + length too_long → out' ≡ written out 0 too_long
         → Holds out (file_text r buffer text) out' k
     unfolding ascii

@@ -19,60 +19,46 @@ const MOST: usize = 65536;
 // One byte more, so that a longer file shows.
 const ROOM: usize = MOST + 1;
 
-// What reading a file gave: nothing, or so many bytes at the start of the buffer.
-#[derive(Clone, Copy)]
-enum Reading {
-    Failed,
-    Bytes(usize),
-}
-
 // One read into buf from `at` on; 0 bytes where the file ends.
-fn read_some(file: &mut impl Read, buf: &mut [u8], at: usize) -> Reading
+fn read_some(file: &mut impl Read, buf: &mut [u8], at: usize) -> Option<usize>
     requires { at ≤ length buf.old }
     ensures { Within result at buf.old }
 {
-    match file.read(&mut buf[at..]) {
-        Ok(n) => Reading::Bytes(n),
-        Err(_) => Reading::Failed,
-    }
+    file.read(&mut buf[at..]).ok()
 }
 
-// Reads until the file ends or the buffer is full: a read may give less than there is.
-fn read_all(file: &mut impl Read, buf: &mut [u8; ROOM]) -> Reading {
+// Reads until the file ends or the buffer is full: a read may give less than there is, so the turns aren't counted.
+fn read_all(file: &mut impl Read, buf: &mut [u8; ROOM]) -> Option<usize> {
     let mut at = 0;
     while at < ROOM {
-        let got = read_some(file, buf, at);
-        match got {
-            Reading::Failed => {
-                return Reading::Failed;
-            }
-            Reading::Bytes(n) => {
-                if n == 0 {
-                    return Reading::Bytes(at);
-                }
-                at += n;
-            }
+        let n = read_some(file, buf, at)?;
+        if n == 0 {
+            return Some(at);
         }
+        at += n;
     }
-    Reading::Bytes(at)
+    Some(at)
 }
 
-// A folder in place of a file may be opened, and then cannot be read.
-fn read_file(rt: &impl Files, name: &str, buf: &mut [u8; ROOM]) -> Reading {
-    match File::open(rt, name) {
-        Ok(mut file) => read_all(&mut file, buf),
-        Err(_) => Reading::Failed,
-    }
+// How many bytes of the file stand in the buffer. A folder in place of a file may be opened, and then cannot be read.
+fn read_file(rt: &impl Files, name: &str, buf: &mut [u8; ROOM]) -> Option<usize> {
+    let mut file = File::open(rt, name).ok()?;
+    read_all(&mut file, buf)
 }
 
 // The text for a model of these bytes, at the start of `out`; where it ends.
-fn graph_text(model: &[u8], g: Reading, graph: &[u8; ROOM], out: &mut [u8; TEXT_ROOM]) -> usize
+fn graph_text(
+    model: &[u8],
+    g: Option<usize>,
+    graph: &[u8; ROOM],
+    out: &mut [u8; TEXT_ROOM],
+) -> usize
     ensures { Holds out.old (file_text g graph.now (report_text model.now)) out.new result }
 {
     let bytes: &[u8] = graph;
     match g {
-        Reading::Failed => text::put(out, 0, b"no file\n"),
-        Reading::Bytes(k) => {
+        None => text::put(out, 0, b"no file\n"),
+        Some(k) => {
             if k <= MOST {
                 report::report(model, &bytes[..k], out)
             } else {
@@ -84,9 +70,9 @@ fn graph_text(model: &[u8], g: Reading, graph: &[u8; ROOM], out: &mut [u8; TEXT_
 
 // The text for what reading both files gave, at the start of `out`; where it ends.
 fn text_of(
-    m: Reading,
+    m: Option<usize>,
     model: &[u8; ROOM],
-    g: Reading,
+    g: Option<usize>,
     graph: &[u8; ROOM],
     out: &mut [u8; TEXT_ROOM],
 ) -> usize
@@ -94,8 +80,8 @@ fn text_of(
 {
     let bytes: &[u8] = model;
     match m {
-        Reading::Failed => text::put(out, 0, b"no file\n"),
-        Reading::Bytes(n) => {
+        None => text::put(out, 0, b"no file\n"),
+        Some(n) => {
             if n <= MOST {
                 graph_text(&bytes[..n], g, graph, out)
             } else {

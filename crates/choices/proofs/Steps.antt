@@ -12,9 +12,9 @@ use lib.Dec.{ltb}
 use lib.ListN.{length}
 use lib.IntN.{ℤ, pos, ◌+ℤ◌, +ℤ_idr}
 use lib.Signed.{lt_z, ◌≤ℤ◌}
-use Rattle.folder.specs.Tab.{tab}
+use Rattle.folder.specs.Tab.{tab, fill}
 use Rattle.folder.proofs.Decides.{and_both}
-use Rattle.folder.proofs.FillLaws.{Filled, fill-over, fill-whole}
+use Rattle.folder.proofs.FillLaws.{fill-whole}
 use Rattle.expressions.specs.Reading.{has_bit}
 use Rattle.expressions.specs.Mentions.{is_free}
 use Rattle.expressions.specs.Combinations.{Label, width_of, choices, left_of, digit, value_in, combination}
@@ -97,9 +97,11 @@ module _ (L : Label) (m : ℕ) where
       sym (value-free L m 0 v t ∙ ap (λ (k : ℕ). (L.bound v).low +ℤ pos k) d ∙ +ℤ_idr (L.bound v).low)
 
   -- A row that is filled whole.
-  pub whole_row : (j : ℕ) {n i : ℕ} {row₀ row : List ℤ} → Filled (value_in L m j) n row₀ row i → n ≤ i → n ≡ L.variables → length row₀ ≡ L.variables → row ≡ combination L m j
+  pub filled-row : (j : ℕ) (row₀ : List ℤ) {n : ℕ} {row : List ℤ} → row ≡ fill n (value_in L m j) row₀ → n ≡ L.variables → length row₀ ≡ L.variables → row ≡ combination L m j
   unfolding combination
-  whole_row j {row₀ = row₀} h l e k = fill-over h l (e ∙ sym k) ∙ fill-whole (value_in L m j) row₀ ∙ ap (λ (i : ℕ). tab i (value_in L m j)) k
+  filled-row j row₀ {n} h e k =
+      let q : n ≡ length row₀ = e ∙ sym k in
+      h ∙ ap (λ (i : ℕ). fill i (value_in L m j) row₀) q ∙ fill-whole (value_in L m j) row₀ ∙ ap (λ (i : ℕ). tab i (value_in L m j)) k
 
   module _ (ordered : (v : ℕ) → v < L.variables → (L.bound v).low ≤ℤ (L.bound v).high) where
     -- It goes up where its digit does.

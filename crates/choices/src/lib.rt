@@ -8,37 +8,32 @@ ghost use Rattle.std.specs.Int.Signed.{mag};
 ghost use Rattle.folder.specs.Fields.{field_limit};
 ghost use Rattle.folder.specs.Contents.{count_of};
 ghost use Rattle.expressions.specs.Limits.{farthest_bound};
-ghost use Rattle.expressions.specs.Ranges.{span, bound_in};
+ghost use Rattle.expressions.specs.Ranges.{bound_in};
 ghost use Rattle.expressions.specs.Combinations.{width_of, choices, combinations, value_in, combination};
 ghost use Rattle.choices.specs.Ranged.{Ranged, label_in, capped};
 ghost use Rattle.choices.specs.Next.{stops_at, next_value};
 
-use expressions::MOST_COMBINATIONS;
+use expressions::{MOST_COMBINATIONS, Range};
+
+// The range of variable v.
+fn range_at(y: &[u8], v: usize) -> Range
+    requires ranged { Ranged y.now }
+    requires v_bound { v < count_of 6 y.now }
+    ensures { result ≡ bound_in y.now v }
+{
+    Range {
+        low: folder::signed_field(6, y, v, 0),
+        high: folder::signed_field(6, y, v, 1),
+    }
+}
 
 // How many values a range has.
-fn width(low: i64, high: i64) -> usize
-    requires low_le_high { low ≤ℤ high }
-    requires low_bound { (mag low ≤ farthest_bound) × (mag high ≤ farthest_bound) }
-    ensures { (result ≡ width_of (span low high)) × (result ≤ field_limit) }
+fn width(r: Range) -> usize
+    requires ordered { r.low ≤ℤ r.high }
+    requires small { (mag r.low ≤ farthest_bound) × (mag r.high ≤ farthest_bound) }
+    ensures { (result ≡ width_of r) × (result ≤ field_limit) }
 {
-    (whole::sub(high, low) as usize) + 1
-}
-
-// The ends of the range of variable v.
-fn low_at(y: &[u8], v: usize) -> i64
-    requires ranged { Ranged y.now }
-    requires v_bound { v < count_of 6 y.now }
-    ensures { result ≡ (bound_in y.now v).low }
-{
-    folder::signed_field(6, y, v, 0)
-}
-
-fn high_at(y: &[u8], v: usize) -> i64
-    requires ranged { Ranged y.now }
-    requires v_bound { v < count_of 6 y.now }
-    ensures { result ≡ (bound_in y.now v).high }
-{
-    folder::signed_field(6, y, v, 1)
+    (r.high - r.low) as usize + 1
 }
 
 // How many values variable v takes, where m is the set of the mentioned variables and t that of the tracked ones.
@@ -48,7 +43,7 @@ fn choices_of(y: &[u8], m: usize, t: usize, v: usize) -> usize
     ensures { (result ≡ choices (bound_in y.now) t m v) × (result ≤ field_limit) }
 {
     if mentions::is_free(m, t, v) {
-        width(low_at(y, v), high_at(y, v))
+        width(range_at(y, v))
     } else {
         1
     }
@@ -60,14 +55,12 @@ pub fn ways(y: &[u8], m: usize, t: usize) -> usize
     ensures { result ≡ capped (combinations (count_of 6 y.now) (bound_in y.now) t m) }
 {
     let n = folder::count_of(6, y);
-    let mut p: usize = 1;
-    let mut v = 0;
-    while v < n {
-        p = p * choices_of(y, m, t, v);
+    let mut p = 1;
+    for v in 0..n {
+        p *= choices_of(y, m, t, v);
         if p > MOST_COMBINATIONS {
             return MOST_COMBINATIONS + 1;
         }
-        v += 1;
     }
     p
 }
@@ -79,9 +72,9 @@ fn first_value(y: &[u8], t: usize, vals: &[i64], v: usize) -> i64
     ensures { (m : ℕ) → result ≡ value_in (label_in y.now t vals.now) m 0 v }
 {
     if expressions::has_bit(t, v) {
-        evaluate::value_at(vals, v)
+        folder::get_or(vals, v, 0)
     } else {
-        low_at(y, v)
+        range_at(y, v).low
     }
 }
 
@@ -91,12 +84,7 @@ pub fn load_first(y: &[u8], t: usize, vals: &[i64], row: &mut [i64])
     requires row_len { length row.old ≡ count_of 6 y.now }
     ensures { (m : ℕ) → row.new ≡ combination (label_in y.now t vals.now) m 0 }
 {
-    let n = folder::count_of(6, y);
-    let mut v = 0;
-    while v < n {
-        row[v] = first_value(y, t, vals, v);
-        v += 1;
-    }
+    folder::fill(row, folder::count_of(6, y), |v| first_value(y, t, vals, v));
 }
 
 // Variable v, whose value is z, goes up by one: it is free and not at its high.
@@ -105,7 +93,7 @@ fn stops_at(y: &[u8], m: usize, t: usize, v: usize, z: i64) -> bool
     requires v_bound { v < count_of 6 y.now }
     ensures { result ≡ stops_at (bound_in y.now) m t v z }
 {
-    mentions::is_free(m, t, v) & whole::less(z, high_at(y, v))
+    mentions::is_free(m, t, v) & (z < range_at(y, v).high)
 }
 
 // Its value in the next combination, where all free variables below it go back to their lows.
@@ -115,9 +103,9 @@ fn next_value(y: &[u8], m: usize, t: usize, v: usize, z: i64) -> i64
     ensures { result ≡ next_value (bound_in y.now) m t v z }
 {
     if stops_at(y, m, t, v, z) {
-        whole::add(z, 1)
+        z + 1
     } else if mentions::is_free(m, t, v) {
-        low_at(y, v)
+        range_at(y, v).low
     } else {
         z
     }
@@ -130,14 +118,11 @@ pub fn advance(y: &[u8], m: usize, t: usize, row: &mut [i64])
     requires row_len { length row.old ≡ count_of 6 y.now }
     ensures { (vals : List ℤ) (j : ℕ) → row.old ≡ combination (label_in y.now t vals) m j → row.new ≡ combination (label_in y.now t vals) m (suc j) }
 {
-    let n = folder::count_of(6, y);
-    let mut v = 0;
-    while v < n {
+    for v in 0..row.len() {
         let z = row[v];
         row[v] = next_value(y, m, t, v, z);
         if stops_at(y, m, t, v, z) {
             return;
         }
-        v += 1;
     }
 }

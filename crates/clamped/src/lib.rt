@@ -1,47 +1,35 @@
-// Arithmetic and reading for the tests, which nothing can break: sums, products and differences stop at the ends of 64
-// bits, and past the end of a slice a byte is 0.
+// Reading for the tests, which nothing can break: past the end of a slice a byte is 0, and a front that is longer than
+// its slice is the slice.
 
 #![tactic(auto)]
 
-// What a field of 2 bytes stays below, and half of it, from where on a signed one is negative.
-pub const FIELD_LIMIT: usize = 65536;
-
-pub const HALF_LIMIT: usize = FIELD_LIMIT / 2;
-
-pub fn add(a: usize, b: usize) -> usize {
-    if a <= usize::MAX - b {
-        a + b
-    } else {
-        usize::MAX
-    }
+pub fn byte(s: &[u8], k: usize) -> u8 {
+    s.get(k).copied().unwrap_or(0)
 }
 
-pub fn sub(a: usize, b: usize) -> usize {
-    if b <= a { a - b } else { 0 }
-}
-
-pub fn mul(a: usize, b: usize) -> usize {
-    if a == 0 {
-        0
-    } else if b <= usize::MAX / a {
-        a * b
-    } else {
-        usize::MAX
-    }
-}
-
-fn wide(x: u8) -> usize {
-    x as usize
-}
-
-pub fn byte(s: &[u8], k: usize) -> usize {
-    if k < s.len() { wide(s[k]) } else { 0 }
+fn two_bytes(s: &[u8], k: usize) -> [u8; 2] {
+    [byte(s, k), byte(s, k.saturating_add(1))]
 }
 
 pub fn field(s: &[u8], k: usize) -> usize {
-    add(byte(s, k), mul(256, byte(s, add(k, 1))))
+    usize::from(u16::from_le_bytes(two_bytes(s, k)))
+}
+
+pub fn signed(s: &[u8], k: usize) -> i64 {
+    i64::from(i16::from_le_bytes(two_bytes(s, k)))
 }
 
 pub fn long(s: &[u8], k: usize) -> usize {
-    add(field(s, k), mul(FIELD_LIMIT, field(s, add(k, 2))))
+    let [a, b] = two_bytes(s, k);
+    let [c, d] = two_bytes(s, k.saturating_add(2));
+    u32::from_le_bytes([a, b, c, d]) as usize
+}
+
+pub fn front<T>(s: &[T], n: usize) -> &[T] {
+    &s[..n.min(s.len())]
+}
+
+pub fn front_mut<T>(s: &mut [T], n: usize) -> &mut [T] {
+    let n = n.min(s.len());
+    &mut s[..n]
 }

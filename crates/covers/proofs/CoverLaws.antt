@@ -6,7 +6,7 @@ use mathlib.Core.Bool.{Bool, true, false, false≢true, not, ◌&&◌, ◌||◌}
 use mathlib.Core.List.{List}
 use native.Mathlib.Decide.{dec_lt}
 use native.Mathlib.Omega.{arith}
-use borrow.Author.Tests.{lt-ltb, le-ltb, eq-eqb, ne_eqb}
+use borrow.Author.Tests.{lt-ltb, le-ltb, eq-eqb, ne_eqb, eqb-true}
 use lib.Dec.{eqb}
 use Rattle.mdp.specs.Kinds.{Kind}
 use Rattle.folder.specs.Pick.{pick, implies}
@@ -20,6 +20,8 @@ use Rattle.model.specs.Limits.{most_variables}
 use Rattle.graph.specs.Simulation.{node_size, kind_of}
 use Rattle.building.specs.Building.{is_open}
 use Rattle.held.specs.Held.{cover_field, tracked_field}
+use Rattle.std.specs.Prelude.{None, Some}
+use Rattle.covers.specs.declared.Fault.TheVariants.{Apart, Untracked}
 use Rattle.covers.specs.Covers.{is_waiting, at, agrees_in, can_cover_in, waits_in, adopted_in, fault_in, hint_at, lowered_hint, SomeWaits, LowestWaits}
 
 -- ---- kinds
@@ -33,15 +35,15 @@ pub waiting-is : (k : ℕ) → ((not (eqb k 1) && not (eqb k 2)) && not (eqb k 3
 unfolding kind_of
 waiting-is k = wait_by (eqb k 1) (eqb k 2) (eqb k 3)
 
-open_by : (a b d : Bool) → (a || (not b && d)) ≡ is_open (pick a Kind.expanded (pick b Kind.covered (pick d Kind.target Kind.waiting)))
-open_by true b d = refl
-open_by false true d = refl
-open_by false false true = refl
-open_by false false false = refl
+open_by : (a b d : Bool) → (b ≡ true → d ≡ false) → (a || d) ≡ is_open (pick a Kind.expanded (pick b Kind.covered (pick d Kind.target Kind.waiting)))
+open_by true b d h = refl
+open_by false true d h = h refl
+open_by false false true h = refl
+open_by false false false h = refl
 
-pub open_is : (k : ℕ) → (eqb k 1 || (not (eqb k 2) && eqb k 3)) ≡ is_open (kind_of k)
+pub open_is : (k : ℕ) → (eqb k 1 || eqb k 3) ≡ is_open (kind_of k)
 unfolding kind_of
-open_is k = open_by (eqb k 1) (eqb k 2) (eqb k 3)
+open_is k = open_by (eqb k 1) (eqb k 2) (eqb k 3) (λ e. ne_eqb k 3 (λ q. omega (arith, eqb-true k 2 e)))
 
 -- ---- a field by the size that the code has worked out
 pub field-by : (vars : ℕ) (nb : List ℕ) (n f : ℕ) {size x : ℕ} → size ≡ node_size vars → x ≡ field size nb n f → x ≡ at vars nb n f
@@ -105,7 +107,7 @@ module _ (vars : ℕ) (nb : List ℕ) (n : ℕ) {c : ℕ} (p : c ≡ at vars nb 
   agree_at : o ≡ agrees_in vars nb (at vars nb n cover_field) n
   agree_at = a ∙ ap (λ (k : ℕ). agrees_in vars nb k n) p
 
-  pub fault-label : o ≡ false → 23 ≡ fault_in vars nb n
+  pub fault-label : o ≡ false → Some Apart ≡ fault_in vars nb n
   unfolding fault_in
   fault-label h = rw (sym agree_at ∙ h) refl
 
@@ -113,11 +115,11 @@ module _ (vars : ℕ) (nb : List ℕ) (n : ℕ) {c : ℕ} (p : c ≡ at vars nb 
     adopted-is : all (among vars t s) vars ≡ adopted_in vars nb n
     adopted-is i = all (λ v. implies (has_bit ((u ∙ ap (λ (k : ℕ). at vars nb k tracked_field) p) i) v) (has_bit (w i) v)) vars
 
-    pub fault-none : vars ≤ most_variables → r ≡ no_variable → 0 ≡ fault_in vars nb n
+    pub fault-none : vars ≤ most_variables → r ≡ no_variable → None ≡ fault_in vars nb n
     unfolding fault_in
     fault-none l q = rw (sym agree_at ∙ h, sym adopted-is ∙ all_among vars t s e l q) refl
 
-    pub fault-set : (r ≡ no_variable → ⊥) → 24 ≡ fault_in vars nb n
+    pub fault-set : (r ≡ no_variable → ⊥) → Some Untracked ≡ fault_in vars nb n
     unfolding fault_in
     fault-set f = rw (sym agree_at ∙ h, sym adopted-is ∙ not-among vars t s e f) refl
 

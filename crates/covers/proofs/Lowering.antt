@@ -59,8 +59,3 @@ module _ (vars n i : ℕ) {old now : List ℕ} (s : Lowered vars n i old now) wh
       later = λ k b. put-there vars now i (state_field + vars) u (omega arith) k (state_field + vars) (omega arith) (λ p r. omega arith) ∙ s.later k (omega arith);
       others = λ k f b d. put-there vars now i (state_field + vars) u (omega arith) k f b (λ p r. d r) ∙ s.others k f b d;
     })
-
-pub lower-over : (vars n : ℕ) {i nodes : ℕ} {old new : List ℕ} → Lowered vars n i old new → i ≤ nodes → nodes ≤ i → Lowered vars n nodes old new
-lower-over vars n {i = i} {nodes = nodes} {old = old} {new = new} s p q =
-    let e : i ≡ nodes = omega arith in
-    subst (λ (k : ℕ). Lowered vars n k old new) e s

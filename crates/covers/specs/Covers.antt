@@ -1,6 +1,6 @@
 -- Document 02, 2.5: covers, by the records that hold the graph while it is built.
 -- Assumes nothing.
-use Rattle.std.specs.Prelude.{ℕ, ◌+◌, ◌*◌, ◌<◌, ◌≤◌, ◌≡◌, Bool, true, false, ◌&&◌, List, ltb}
+use Rattle.std.specs.Prelude.{ℕ, ◌+◌, ◌*◌, ◌<◌, ◌≤◌, ◌≡◌, Bool, true, false, ◌&&◌, List, ltb, Option, None, Some}
 use Rattle.mdp.specs.Kinds.{Kind}
 use Rattle.folder.specs.Pick.{pick, implies}
 use Rattle.folder.specs.Scan.{all}
@@ -12,6 +12,8 @@ use Rattle.graph.specs.Simulation.{node_size, kind_of}
 use Rattle.building.specs.Building.{is_open}
 use Rattle.put.specs.Put.{Stays}
 use Rattle.held.specs.Held.{kind_field, cover_field, tracked_field, state_field, field_count}
+use Rattle.covers.specs.declared.Fault.{Fault}
+use Rattle.covers.specs.declared.Fault.TheVariants.{Apart, Untracked}
 
 -- A kind that waits.
 abbrev pub is_waiting : Kind → Bool
@@ -37,12 +39,12 @@ module _ (vars : ℕ) (nb : List ℕ) where
   unfoldable pub waits_in : ℕ → Bool
   waits_in n = is_waiting (kind_of (at n kind_field))
 
-  -- The rule that the covered node n breaks first: 23 or 24; else 0.
+  -- What the covered node n breaks first: 23 is `Apart`, 24 `Untracked`.
   abbrev pub adopted_in : ℕ → Bool
   adopted_in n = all (λ v. implies (has_bit (at (at n cover_field) tracked_field) v) (has_bit (at n tracked_field) v)) vars
 
-  unfoldable pub fault_in : ℕ → ℕ
-  fault_in n = pick (agrees_in (at n cover_field) n) (pick (adopted_in n) 0 24) 23
+  unfoldable pub fault_in : ℕ → Option Fault
+  fault_in n = pick (agrees_in (at n cover_field) n) (pick (adopted_in n) None (Some Untracked)) (Some Apart)
 
   -- Node i's hint once node n can cover: not above n, if n contains i's state.
   abbrev pub hint_at : ℕ → ℕ

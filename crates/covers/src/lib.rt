@@ -2,7 +2,7 @@
 
 #![tactic(auto)]
 
-ghost use Rattle.std.specs.Prelude.{◌≡◌, true, false, not, ℕ, ◌+◌, ◌*◌, ◌<◌, ◌≤◌, length};
+ghost use Rattle.std.specs.Prelude.{◌≡◌, false, not, ℕ, ◌+◌, ◌*◌, ◌<◌, ◌≤◌, length};
 ghost use Rattle.folder.specs.Scan.{first_bad};
 ghost use Rattle.folder.specs.Fields.{field_limit, signed16};
 ghost use Rattle.folder.specs.Contents.{field};
@@ -16,16 +16,17 @@ use expressions::NO_VARIABLE;
 use graph::{COVERED, EXPANDED, TARGET};
 use nodes::{COVER, KIND, SET, STATE};
 
+// Operators, here and in `is_open`: the facts of a default arm after alternatives on numbers have no name that proofs can cite.
 fn is_waiting(k: usize) -> bool
     ensures { result ≡ is_waiting (kind_of k) }
 {
-    (!(k == EXPANDED) & !(k == COVERED)) & !(k == TARGET)
+    (k != EXPANDED) & (k != COVERED) & (k != TARGET)
 }
 
 fn is_open(k: usize) -> bool
     ensures { result ≡ is_open (kind_of k) }
 {
-    (k == EXPANDED) | (!(k == COVERED) & (k == TARGET))
+    (k == EXPANDED) | (k == TARGET)
 }
 
 // Two nodes have the same value in field f.
@@ -54,15 +55,7 @@ pub fn agrees(vars: usize, nb: &[u8], k: usize, n: usize) -> bool
     ensures { result ≡ agrees_in vars nb.now k n }
 {
     let t = folder::field(graph::node_size(vars), nb, k, SET);
-    let mut v = 0;
-    while v < vars {
-        if agrees_at(vars, nb, t, k, n, v) {
-            v += 1;
-        } else {
-            return false;
-        }
-    }
-    true
+    folder::all(vars, |v| agrees_at(vars, nb, t, k, n, v))
 }
 
 // Node c can cover node n.
@@ -71,27 +64,23 @@ fn can_cover(vars: usize, nb: &[u8], n: usize, c: usize) -> bool
     ensures { result ≡ can_cover_in vars nb.now n c }
 {
     let k = folder::field(graph::node_size(vars), nb, c, KIND);
-    if is_open(k) {
-        agrees(vars, nb, c, n)
-    } else {
-        false
-    }
+    is_open(k) && agrees(vars, nb, c, n)
 }
 
 // The lowest node that can cover node n; `nodes` if none can. None below its hint can.
+// Not an Option: the number is `first_bad`'s, which the contract promises.
 pub fn lowest_cover(vars: usize, nb: &[u8], nodes: usize, n: usize) -> usize
     requires vars_le_most_variables { (vars ≤ most_variables) × (nodes ≤ field_limit) × (n ≤ field_limit) × (hint_at vars nb.now n ≤ nodes) }
     requires by_index { (c : ℕ) → c < hint_at vars nb.now n → can_cover_in vars nb.now n c ≡ false }
     ensures { result ≡ first_bad (λ c. not (can_cover_in vars nb.now n c)) nodes }
 {
-    let mut c = folder::field(graph::node_size(vars), nb, n, STATE + vars);
-    while c < nodes {
+    let hint = folder::field(graph::node_size(vars), nb, n, STATE + vars);
+    for c in hint..nodes {
         if can_cover(vars, nb, n, c) {
             return c;
         }
-        c += 1;
     }
-    c
+    nodes
 }
 
 fn waits(vars: usize, nb: &[u8], n: usize) -> bool
@@ -107,6 +96,7 @@ pub fn lowest_waiting(vars: usize, nb: &[u8], next: usize) -> usize
     requires some_waits { SomeWaits vars nb.now next }
     ensures { LowestWaits vars nb.now result }
 {
+    // No `for`: some node waits, so no end is tested.
     let mut n = next;
     while !waits(vars, nb, n) {
         n += 1;
@@ -114,22 +104,29 @@ pub fn lowest_waiting(vars: usize, nb: &[u8], next: usize) -> usize
     n
 }
 
-// The rule that the covered node n breaks first: 23 or 24; 0 if none.
-pub fn fault_of(vars: usize, nb: &[u8], n: usize) -> usize
+// What a covered node breaks: its cover does not contain its state (23), or tracks what it does not track (24).
+#[derive(Clone, Copy, Debug, PartialEq, Eq)]
+pub enum Fault {
+    Apart,
+    Untracked,
+}
+
+// What the covered node n breaks first.
+pub fn fault_of(vars: usize, nb: &[u8], n: usize) -> Option<Fault>
     requires { (vars ≤ most_variables) × (n ≤ field_limit) }
     ensures { result ≡ fault_in vars nb.now n }
 {
     let size = graph::node_size(vars);
     let c = folder::field(size, nb, n, COVER);
     if !agrees(vars, nb, c, n) {
-        return 23;
+        return Some(Fault::Apart);
     }
     let t = folder::field(size, nb, c, SET);
     let s = folder::field(size, nb, n, SET);
     if mentions::missing_of(vars, t, s) == NO_VARIABLE {
-        return 0;
+        return None;
     }
-    24
+    Some(Fault::Untracked)
 }
 
 // Node i's hint once node n can cover.
@@ -138,13 +135,11 @@ fn lowered_hint(vars: usize, nb: &[u8], n: usize, i: usize) -> usize
     ensures { (result ≡ lowered_hint vars nb.now n i) × (result < field_limit) }
 {
     let hint = folder::field(graph::node_size(vars), nb, i, STATE + vars);
-    if n < hint {
-        if agrees(vars, nb, n, i) {
-            return n;
-        }
-        return hint;
+    if n < hint && agrees(vars, nb, n, i) {
+        n
+    } else {
+        hint
     }
-    hint
 }
 
 // All hints are lowered by node n.
@@ -153,10 +148,8 @@ pub fn lower_hints(vars: usize, nb: &mut [u8], nodes: usize, n: usize)
     requires nodes_in_bounds { node_size vars * nodes ≤ length nb.old }
     ensures { Lowered vars n nodes nb.old nb.new }
 {
-    let mut i = 0;
-    while i < nodes {
+    for i in 0..nodes {
         let hint = lowered_hint(vars, nb, n, i);
         nodes::put_field(vars, nb, i, STATE + vars, hint);
-        i += 1;
     }
 }

@@ -2,7 +2,7 @@
 
 #![tactic(auto)]
 
-ghost use Rattle.std.specs.Prelude.{◌≡◌, ◌<◌, ◌≤◌, max, get_or};
+ghost use Rattle.std.specs.Prelude.{◌≡◌, ◌<◌, ◌≤◌, get_or};
 ghost use Rattle.folder.specs.Fields.{field_limit};
 ghost use Rattle.folder.specs.Scan.{first_bad};
 ghost use Rattle.folder.specs.Contents.{count_of};
@@ -87,12 +87,6 @@ fn form_fits(x: &[u8], variables: usize, e: usize) -> bool
     number_fits(x, variables, e, f) | truth_fits(x, variables, e, t)
 }
 
-fn larger(a: usize, b: usize) -> usize
-    ensures { result ≡ max a b }
-{
-    if a <= b { b } else { a }
-}
-
 // The depth of an entry, `depths` being those of its parts.
 fn number_depth(depths: &[u8], f: NumberForm) -> usize
     ensures { (result ≡ number_step depth (λ p. get_or depths.now p 0) (λ p. get_or depths.now p 0) f) × (result ≤ 256) }
@@ -101,11 +95,11 @@ fn number_depth(depths: &[u8], f: NumberForm) -> usize
         NumberForm::Constant(_) => 1,
         NumberForm::Variable(_) => 1,
         NumberForm::Binary(_, p, q) => {
-            larger(folder::byte_at(depths, p), folder::byte_at(depths, q)) + 1
+            folder::byte_at(depths, p).max(folder::byte_at(depths, q)) + 1
         }
         NumberForm::If(c, p, q) => {
-            let arms = larger(folder::byte_at(depths, p), folder::byte_at(depths, q));
-            larger(folder::byte_at(depths, c), arms) + 1
+            let arms = folder::byte_at(depths, p).max(folder::byte_at(depths, q));
+            folder::byte_at(depths, c).max(arms) + 1
         }
         NumberForm::NoNumber => 0,
     }
@@ -116,11 +110,11 @@ fn truth_depth(depths: &[u8], f: TruthForm) -> usize
 {
     match f {
         TruthForm::Compare(_, p, q) => {
-            larger(folder::byte_at(depths, p), folder::byte_at(depths, q)) + 1
+            folder::byte_at(depths, p).max(folder::byte_at(depths, q)) + 1
         }
         TruthForm::Not(p) => folder::byte_at(depths, p) + 1,
         TruthForm::Joined(_, p, q) => {
-            larger(folder::byte_at(depths, p), folder::byte_at(depths, q)) + 1
+            folder::byte_at(depths, p).max(folder::byte_at(depths, q)) + 1
         }
         TruthForm::Always => 1,
         TruthForm::NoTruth => 0,
@@ -133,7 +127,7 @@ fn depth_by(x: &[u8], depths: &[u8], e: usize) -> usize
 {
     let f = expressions::number_form(x, e);
     let t = expressions::truth_form(x, e);
-    larger(number_depth(depths, f), truth_depth(depths, t))
+    number_depth(depths, f).max(truth_depth(depths, t))
 }
 
 // The lowest entry that breaks row 5, or how many there are. Depths are filled upward, each from its parts' depths: a
@@ -144,15 +138,12 @@ pub fn first_bad_entry(x: &[u8], variables: usize) -> usize
 {
     let n = folder::count_of(8, x);
     let mut depths = [0u8; MOST_EXPRESSIONS];
-    let mut i = 0;
-    while i < n {
+    for i in 0..n {
         let d = depth_by(x, &depths, i);
-        if form_fits(x, variables, i) & (d <= DEEPEST) {
-            depths[i] = d as u8;
-            i += 1;
-        } else {
+        if !(form_fits(x, variables, i) & (d <= DEEPEST)) {
             return i;
         }
+        depths[i] = d as u8;
     }
-    i
+    n
 }

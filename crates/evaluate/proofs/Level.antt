@@ -3,31 +3,33 @@
 -- Assumes nothing.
 use Prim.Native.Nat.{ℕ, zero, suc, ◌-◌}
 use mathlib.Core.Path.{◌≡◌, refl, sym, ap, ◌∙◌}
+use mathlib.Core.Bool.{true, false}
 use mathlib.Core.List.{List}
 use native.Mathlib.Numerals.{sub-one}
 use lib.IntN.{ℤ}
 use Rattle.expressions.specs.Entries.{Entries, entries_of, number_form, truth_form}
 use Rattle.expressions.specs.Levels.{Interpretation, number_step, truth_step, number_at, truth_at}
 use Rattle.expressions.specs.Mentions.{carry_n, carry_t, plain_n, plain_t}
-use Rattle.expressions.specs.Reading.{look_in, reading}
+use Rattle.expressions.specs.Reading.{look_in, reading, is_true}
 use Rattle.expressions.specs.declared.NumberForm.{NumberForm}
 use Rattle.expressions.specs.declared.TruthForm.{TruthForm}
-use Rattle.expressions.specs.declared.Number.{Number}
-use Rattle.expressions.specs.declared.Number.TheVariants.{Known, Unknown as Open}
-use Rattle.expressions.specs.declared.Truth.{Truth}
-use Rattle.expressions.specs.declared.Truth.TheVariants.{True, False, Unknown}
-use Rattle.expressions.specs.declared.NumberReading.{NumberReading}
-use Rattle.expressions.specs.declared.TruthReading.{TruthReading}
+use Rattle.expressions.specs.ThreeWay.{Number, Truth, NumberReading, TruthReading}
 use Rattle.evaluate.specs.Bounded.{Small, Bounded}
+use Rattle.std.specs.Prelude.{None, Some, unwrap_or}
 
 plain-number : (w : ℕ) (a : Number) → plain_n (carry_n w a) ≡ a
-plain-number w (Known z) = refl
-plain-number w Open = refl
+plain-number w (Some z) = refl
+plain-number w None = refl
 
 plain-truth : (w : ℕ) (a : Truth) → plain_t (carry_t w a) ≡ a
-plain-truth w True = refl
-plain-truth w False = refl
-plain-truth w Unknown = refl
+plain-truth w (Some b) = refl
+plain-truth w None = refl
+
+-- A truth that is unknown is not true.
+pub is-true : (a : Truth) → unwrap_or a false ≡ is_true a
+is-true (Some true) = refl
+is-true (Some false) = refl
+is-true None = refl
 
 module _ (x : List ℕ) (t : ℕ) (v : List ℤ) where
   abbrev R : Interpretation Number Truth
@@ -43,11 +45,11 @@ module _ (x : List ℕ) (t : ℕ) (v : List ℤ) where
   pub truth-part : (n e w : ℕ) {r : TruthReading} {a : Truth} → a ≡ plain_t r → r ≡ carry_t w (truth_at R X n e) → a ≡ truth_at R X n e
   truth-part n e w k l = k ∙ ap plain_t l ∙ plain-truth w (truth_at R X n e)
 
-  pub number-none : (n e : ℕ) → n ≡ 0 → Open ≡ number_at R X n e
+  pub number-none : (n e : ℕ) → n ≡ 0 → None ≡ number_at R X n e
   unfolding number_at
   number-none n e h = rw h refl
 
-  pub truth-none : (n e : ℕ) → n ≡ 0 → Unknown ≡ truth_at R X n e
+  pub truth-none : (n e : ℕ) → n ≡ 0 → None ≡ truth_at R X n e
   unfolding truth_at
   truth-none n e h = rw h refl
 

@@ -20,10 +20,7 @@ use Rattle.expressions.specs.Ranges.{span, range_of, limits}
 use Rattle.expressions.specs.Rules.{deepest, depth_of}
 use Rattle.expressions.specs.Right.{IsNumber, IsTruth, Inside}
 use Rattle.expressions.specs.Parts.{Lower}
-use Rattle.expressions.specs.declared.Number.{Number}
-use Rattle.expressions.specs.declared.Number.TheVariants.{Known, Unknown as Open}
-use Rattle.expressions.specs.declared.Truth.TheVariants.{Unknown}
-use Rattle.expressions.specs.declared.TruthReading.TheVariants.{Lacks}
+use Rattle.expressions.specs.ThreeWay.{Number}
 use Rattle.expressions.specs.declared.Range.{Range}
 use Rattle.expressions.proofs.Bits.{each-tracked}
 use Rattle.expressions.proofs.Interval.{In}
@@ -36,8 +33,9 @@ use Rattle.expressions.proofs.Whole.{whole-number, whole-truth}
 use Rattle.mentions.specs.Masked.{Masked}
 use Rattle.evaluate.specs.Bounded.{Bounded}
 use Rattle.evaluate.specs.Formed.{Formed, Values, Ready, Grounded}
+use Rattle.std.specs.Prelude.{Err, None, Some}
 
-in-known : {r : Range} {a : Number} (z : ℤ) → InN r a → a ≡ Known z → In r z
+in-known : {r : Range} {a : Number} (z : ℤ) → InN r a → a ≡ Some z → In r z
 in-known {r} z (InN.known_in h) e = subst (λ (w : ℤ). In r w) (cc) h
 in-known z InN.open_in e = absurd (let k : ◌≡◌ {A = ℕ} 0 1 = cc in omega arith)
 
@@ -92,11 +90,11 @@ module _ (x : Entries) (vars : ℕ) where
   truth-lacking masks t v ready masked e l = rw (masked.is e l, truth-enough x t v ready e)
 
   -- An entry past the last is of no form, so that it reads unknown and mentions nothing.
-  past-read : (look : ℕ → Number) (e : ℕ) → x.count ≤ e → read_truth x look e ≡ Unknown
+  past-read : (look : ℕ → Number) (e : ℕ) → x.count ≤ e → read_truth x look e ≡ None
   unfolding read_truth truth_at truth_form
   past-read look e l = rw (le-ltb e x.count l)
 
-  pub past-lacking : (t : ℕ) (v : List ℤ) (e : ℕ) → x.count ≤ e → Lacks no_variable ≡ truth_reading x vars t v e
+  pub past-lacking : (t : ℕ) (v : List ℤ) (e : ℕ) → x.count ≤ e → Err no_variable ≡ truth_reading x vars t v e
   past-lacking t v e l = rw (past-read (look_in t v) e l, past-mentions x e l, none-missing vars t)
 
 -- ---- a state
@@ -109,7 +107,7 @@ module _ (x : Entries) (s : State) (grounded : Grounded x s) where
     values = record { low = λ i h. grounded.low i; high = λ i h. grounded.high i };
   }
 
-  told : (i : ℕ) → i < grounded.variables → (z : ℤ) × (look_in all_tracked s i ≡ Known z)
+  told : (i : ℕ) → i < grounded.variables → (z : ℤ) × (look_in all_tracked s i ≡ Some z)
   unfolding look_in
   told i l = (value_of s i, rw (each-tracked i (omega (arith, grounded.few))))
 
@@ -118,16 +116,16 @@ module _ (x : Entries) (s : State) (grounded : Grounded x s) where
   says i = pick_all (λ (a : Number). Says a (value_of s i)) (has_bit all_tracked i) Says.known Says.open-number
 
   module _ (e : ℕ) where
-    pub number-known : (z : ℤ) → read_number x (look_in all_tracked s) e ≡ Known z → z ≡ number_in x s e
+    pub number-known : (z : ℤ) → read_number x (look_in all_tracked s) e ≡ Some z → z ≡ number_in x s e
     number-known z h = sym (known_is z (number-sound x (look_in all_tracked s) s says e) h)
 
-    pub number-open : IsNumber x e → read_number x (look_in all_tracked s) e ≡ Open → ⊥
+    pub number-open : IsNumber x e → read_number x (look_in all_tracked s) e ≡ None → ⊥
     number-open n h =
         let w = whole-number x grounded.variables grounded.formed.right (look_in all_tracked s) told e n in
         let k : ◌≡◌ {A = ℕ} 0 1 = cc w.1 in
         omega arith
 
-    truth-open : IsTruth x e → read_truth x (look_in all_tracked s) e ≡ Unknown → ⊥
+    truth-open : IsTruth x e → read_truth x (look_in all_tracked s) e ≡ None → ⊥
     truth-open n h = let w = whole-truth x grounded.variables grounded.formed.right (look_in all_tracked s) told e n in never-known w.0 (sym h ∙ w.1)
 
     -- No truth reads unknown in a state, so that one that does not read true is false.

@@ -22,10 +22,7 @@ use Rattle.expressions.specs.Meaning.{State, number_in}
 use Rattle.expressions.specs.Parts.{EachN, EachT, Lower}
 use Rattle.expressions.specs.Reading.{look_in, reading, read_number, read_truth}
 use Rattle.expressions.specs.Right.{IsNumber, IsTruth, NumberPart, TruthPart}
-use Rattle.expressions.specs.declared.Number.{Number}
-use Rattle.expressions.specs.declared.Number.TheVariants.{Known, Unknown as Open}
-use Rattle.expressions.specs.declared.Truth.{Truth}
-use Rattle.expressions.specs.declared.Truth.TheVariants.{True, False, Unknown}
+use Rattle.expressions.specs.ThreeWay.{Number, Truth}
 use Rattle.expressions.specs.declared.NumberForm.{NumberForm}
 use Rattle.expressions.specs.declared.NumberForm.TheVariants.{Binary}
 use Rattle.expressions.specs.declared.TruthForm.{TruthForm}
@@ -37,17 +34,18 @@ use Rattle.evaluate.specs.Bounded.{Small, Bounded}
 use Rattle.evaluate.specs.Formed.{Ready, Grounded}
 use Rattle.evaluate.specs.Settled.{as_number, flag_of, content_of, number_from, truth_from, entry_reading, flag_at, content_at, Settled, StateRow}
 use Rattle.evaluate.proofs.Readable.{bounded, number-known, number-open}
+use Rattle.std.specs.Prelude.{None, Some}
 
 -- ---- a reading and what the rows have for it
 from-number : (a : Number) → number_from (flag_of a) (content_of a) ≡ a
-from-number (Known z) = refl
-from-number Open = refl
+from-number (Some z) = refl
+from-number None = refl
 
 from-truth : (a : Truth) → truth_from (flag_of (as_number a)) (content_of (as_number a)) ≡ a
 unfolding eq_z
-from-truth True = refl
-from-truth False = refl
-from-truth Unknown = refl
+from-truth (Some true) = refl
+from-truth (Some false) = refl
+from-truth None = refl
 
 module _ (x : Entries) (look : ℕ → Number) where
   reads-number : (e : ℕ) → IsNumber x e → entry_reading x look e ≡ read_number x look e
@@ -117,7 +115,7 @@ module _ (x : Entries) (t : ℕ) (v : List ℤ) (ready : Ready x t v) (e : ℕ) 
 
 -- ---- a state
 module _ (x : Entries) (s : State) (grounded : Grounded x s) (known : List ℕ) (values : List ℤ) (settled : Settled x (look_in all_tracked s) x.count known values) where
-  number_is : (e : ℕ) → IsNumber x e → (b : Bool) → pick b (Known (get_or values e (pos 0))) Open ≡ read_number x (look_in all_tracked s) e → get_or values e (pos 0) ≡ number_in x s e
+  number_is : (e : ℕ) → IsNumber x e → (b : Bool) → pick b (Some (get_or values e (pos 0))) None ≡ read_number x (look_in all_tracked s) e → get_or values e (pos 0) ≡ number_in x s e
   number_is e i true h = number-known x s grounded e (get_or values e (pos 0)) (sym h)
   number_is e i false h = absurd (number-open x s grounded e i (sym h))
 

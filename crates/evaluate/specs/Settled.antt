@@ -1,38 +1,35 @@
 -- The readings of all entries in one label, as two rows: which are known, and what they are.
 -- Assumes nothing.
-use Rattle.std.specs.Prelude.{ℕ, ◌<◌, ◌≡◌, List, eqb, get_or, ℤ, pos}
+use Rattle.std.specs.Prelude.{ℕ, ◌<◌, ◌≡◌, true, false, List, eqb, get_or, ℤ, pos, None, Some}
 use Rattle.folder.specs.Pick.{pick}
 use Rattle.whole.specs.Order.{eq_z}
 use Rattle.expressions.specs.Entries.{Entries, is_number}
 use Rattle.expressions.specs.Meaning.{State, number_in}
 use Rattle.expressions.specs.Reading.{known_truth, read_number, read_truth}
 use Rattle.expressions.specs.Right.{IsNumber}
-use Rattle.expressions.specs.declared.Number.{Number}
-use Rattle.expressions.specs.declared.Number.TheVariants.{Known, Unknown as Open}
-use Rattle.expressions.specs.declared.Truth.{Truth}
-use Rattle.expressions.specs.declared.Truth.TheVariants.{True, False, Unknown}
+use Rattle.expressions.specs.ThreeWay.{Number, Truth}
 
 -- A truth as a number: 1 for true, 0 for false.
 abbrev pub as_number : Truth → Number
-as_number True = Known (pos 1)
-as_number False = Known (pos 0)
-as_number Unknown = Open
+as_number (Some true) = Some (pos 1)
+as_number (Some false) = Some (pos 0)
+as_number None = None
 
 -- What the rows have for a reading: 1 and the number where it is known, else 0 and 0.
 abbrev pub flag_of : Number → ℕ
-flag_of (Known z) = 1
-flag_of Open = 0
+flag_of (Some z) = 1
+flag_of None = 0
 
 abbrev pub content_of : Number → ℤ
-content_of (Known z) = z
-content_of Open = pos 0
+content_of (Some z) = z
+content_of None = pos 0
 
 -- The number, and the truth, that they stand for.
 abbrev pub number_from : ℕ → ℤ → Number
-number_from k z = pick (eqb k 1) (Known z) Open
+number_from k z = pick (eqb k 1) (Some z) None
 
 abbrev pub truth_from : ℕ → ℤ → Truth
-truth_from k z = pick (eqb k 1) (known_truth (eq_z z (pos 1))) Unknown
+truth_from k z = pick (eqb k 1) (known_truth (eq_z z (pos 1))) None
 
 module _ (x : Entries) (look : ℕ → Number) where
   -- How entry e reads, by its sort.

@@ -2,7 +2,7 @@
 
 #![tactic(auto)]
 
-ghost use Rattle.std.specs.Prelude.{◌≡◌, ◌≤◌, get_or, length, pos};
+ghost use Rattle.std.specs.Prelude.{◌≡◌, ◌≤◌, get_or, length, ok_or, pos};
 ghost use Rattle.std.specs.Int.Signed.{mag};
 ghost use Rattle.folder.specs.Fields.{field_limit};
 ghost use Rattle.folder.specs.Contents.{count_of};
@@ -11,9 +11,9 @@ ghost use Rattle.whole.specs.Limits.{farthest};
 ghost use Rattle.expressions.specs.Entries.{entries_of};
 ghost use Rattle.expressions.specs.Levels.{number_at, truth_at};
 ghost use Rattle.expressions.specs.Meaning.{truth_in};
-ghost use Rattle.expressions.specs.Mentions.{missing, carry_n, carry_t, plain_n, plain_t, truth_reading};
+ghost use Rattle.expressions.specs.Mentions.{missing, carry_n, carry_t, truth_reading};
 ghost use Rattle.expressions.specs.Operations.{arith_z, relates};
-ghost use Rattle.expressions.specs.Reading.{arith_n, choose_n, compare_n, not_t, and_t, or_t, join_t, look_in, reading, read_number, read_truth, is_true};
+ghost use Rattle.expressions.specs.Reading.{arith_n, choose_n, compare_n, not_t, and_t, or_t, join_t, look_in, reading, read_number, read_truth};
 ghost use Rattle.expressions.specs.Right.{IsTruth};
 ghost use Rattle.mentions.specs.Masked.{Masked};
 ghost use Rattle.evaluate.specs.Bounded.{Small, Bounded};
@@ -21,25 +21,24 @@ ghost use Rattle.evaluate.specs.Formed.{Ready, Grounded};
 ghost use Rattle.evaluate.specs.Settled.{as_number, flag_of, content_of, number_from, truth_from, entry_reading, flag_at, content_at, Settled};
 
 use expressions::{
-    ALL_TRACKED, Arith, DEEPEST, Join, NO_VARIABLE, Number, NumberForm, NumberReading, Relation,
-    Truth, TruthForm, TruthReading,
+    ALL_TRACKED, Arith, DEEPEST, Join, NO_VARIABLE, NumberForm, Relation, TruthForm,
 };
 
 // The value of variable i; past the last, 0.
 pub fn value_at(v: &[i64], i: usize) -> i64
     ensures { result ≡ get_or v.now i (pos 0) }
 {
-    if i < v.len() { v[i] } else { 0 }
+    folder::get_or(v, i, 0)
 }
 
 // What the label with the set t and the values v says of variable i.
-pub fn look_in(t: usize, v: &[i64], i: usize) -> Number
+pub fn look_in(t: usize, v: &[i64], i: usize) -> Option<i64>
     ensures { result ≡ look_in t v.now i }
 {
     if expressions::has_bit(t, i) {
-        Number::Known(value_at(v, i))
+        Some(value_at(v, i))
     } else {
-        Number::Unknown
+        None
     }
 }
 
@@ -68,92 +67,54 @@ pub fn relate(k: Relation, a: i64, b: i64) -> bool
 }
 
 // Operations on readings.
-pub fn combine(k: Arith, a: Number, b: Number) -> Number
+pub fn combine(k: Arith, a: Option<i64>, b: Option<i64>) -> Option<i64>
     requires { Small a × Small b }
     ensures { result ≡ arith_n k a b }
 {
-    match a {
-        Number::Known(m) => match b {
-            Number::Known(n) => Number::Known(arith_of(k, m, n)),
-            Number::Unknown => Number::Unknown,
-        },
-        Number::Unknown => Number::Unknown,
-    }
+    Some(arith_of(k, a?, b?))
 }
 
-pub fn choose(t: Truth, a: Number, b: Number) -> Number
+pub fn choose(t: Option<bool>, a: Option<i64>, b: Option<i64>) -> Option<i64>
     ensures { result ≡ choose_n t a b }
 {
-    match a {
-        Number::Known(_) => match b {
-            Number::Known(_) => match t {
-                Truth::True => a,
-                Truth::False => b,
-                Truth::Unknown => Number::Unknown,
-            },
-            Number::Unknown => Number::Unknown,
-        },
-        Number::Unknown => Number::Unknown,
-    }
+    let m = a?;
+    let n = b?;
+    Some(if t? { m } else { n })
 }
 
-pub fn compare(k: Relation, a: Number, b: Number) -> Truth
+pub fn compare(k: Relation, a: Option<i64>, b: Option<i64>) -> Option<bool>
     ensures { result ≡ compare_n k a b }
 {
-    match a {
-        Number::Known(m) => match b {
-            Number::Known(n) => {
-                if relate(k, m, n) {
-                    Truth::True
-                } else {
-                    Truth::False
-                }
-            }
-            Number::Unknown => Truth::Unknown,
-        },
-        Number::Unknown => Truth::Unknown,
-    }
+    Some(relate(k, a?, b?))
 }
 
-pub fn negate(a: Truth) -> Truth
+pub fn negate(a: Option<bool>) -> Option<bool>
     ensures { result ≡ not_t a }
 {
-    match a {
-        Truth::True => Truth::False,
-        Truth::False => Truth::True,
-        Truth::Unknown => Truth::Unknown,
-    }
+    Some(!a?)
 }
 
-pub fn both(a: Truth, b: Truth) -> Truth
+pub fn both(a: Option<bool>, b: Option<bool>) -> Option<bool>
     ensures { result ≡ and_t a b }
 {
-    match a {
-        Truth::True => b,
-        Truth::False => Truth::False,
-        Truth::Unknown => match b {
-            Truth::True => Truth::Unknown,
-            Truth::False => Truth::False,
-            Truth::Unknown => Truth::Unknown,
-        },
+    match (a, b) {
+        (Some(false), _) | (_, Some(false)) => Some(false),
+        (Some(true), Some(true)) => Some(true),
+        _ => None,
     }
 }
 
-pub fn either(a: Truth, b: Truth) -> Truth
+pub fn either(a: Option<bool>, b: Option<bool>) -> Option<bool>
     ensures { result ≡ or_t a b }
 {
-    match a {
-        Truth::True => Truth::True,
-        Truth::False => b,
-        Truth::Unknown => match b {
-            Truth::True => Truth::True,
-            Truth::False => Truth::Unknown,
-            Truth::Unknown => Truth::Unknown,
-        },
+    match (a, b) {
+        (Some(true), _) | (_, Some(true)) => Some(true),
+        (Some(false), Some(false)) => Some(false),
+        _ => None,
     }
 }
 
-pub fn joined(k: Join, a: Truth, b: Truth) -> Truth
+pub fn joined(k: Join, a: Option<bool>, b: Option<bool>) -> Option<bool>
     ensures { result ≡ join_t k a b }
 {
     match k {
@@ -164,47 +125,10 @@ pub fn joined(k: Join, a: Truth, b: Truth) -> Truth
 
 // A reading and, if it is unknown, the variable that entry e lacks of `vars` in the label with the set t: `masks` has what
 // it mentions. Only then is that worked out.
-fn carry_number(r: Number, vars: usize, masks: &[u16], t: usize, e: usize) -> NumberReading
-    ensures { result ≡ carry_n (missing vars (get_or masks.now e 0) t) r }
+fn carry<T: Copy>(r: Option<T>, vars: usize, masks: &[u16], t: usize, e: usize) -> Result<T, usize>
+    ensures { result ≡ ok_or r (missing vars (get_or masks.now e 0) t) }
 {
-    match r {
-        Number::Known(z) => NumberReading::Known(z),
-        Number::Unknown => {
-            NumberReading::Lacks(mentions::missing_of(vars, mentions::mask_at(masks, e), t))
-        }
-    }
-}
-
-fn carry_truth(r: Truth, vars: usize, masks: &[u16], t: usize, e: usize) -> TruthReading
-    ensures { result ≡ carry_t (missing vars (get_or masks.now e 0) t) r }
-{
-    match r {
-        Truth::True => TruthReading::True,
-        Truth::False => TruthReading::False,
-        Truth::Unknown => {
-            TruthReading::Lacks(mentions::missing_of(vars, mentions::mask_at(masks, e), t))
-        }
-    }
-}
-
-// The reading alone.
-fn plain_number(r: NumberReading) -> Number
-    ensures { result ≡ plain_n r }
-{
-    match r {
-        NumberReading::Known(z) => Number::Known(z),
-        NumberReading::Lacks(_) => Number::Unknown,
-    }
-}
-
-fn plain_truth(r: TruthReading) -> Truth
-    ensures { result ≡ plain_t r }
-{
-    match r {
-        TruthReading::True => Truth::True,
-        TruthReading::False => Truth::False,
-        TruthReading::Lacks(_) => Truth::Unknown,
-    }
+    r.ok_or_else(|| mentions::missing_of(vars, mentions::mask_at(masks, e), t))
 }
 
 // How entry e of the body x reads in the label with the set t and the values v, with `left` levels to go. The evaluators
@@ -219,31 +143,31 @@ pub fn read_number(
     v: &[i64],
     e: usize,
     left: usize,
-) -> NumberReading
+) -> Result<i64, usize>
     requires bounded { Bounded (entries_of x.now) (look_in t v.now) }
     requires e_le_field_limit { e ≤ field_limit }
     ensures { result ≡ carry_n (missing vars (get_or masks.now e 0) t) (number_at (reading (look_in t v.now)) (entries_of x.now) left e) }
 {
     if left == 0 {
-        return carry_number(Number::Unknown, vars, masks, t, e);
+        return carry(None, vars, masks, t, e);
     }
     let n = left - 1;
     let f = expressions::number_form(x, e);
     match f {
-        NumberForm::Constant(z) => NumberReading::Known(z),
-        NumberForm::Variable(i) => carry_number(look_in(t, v, i), vars, masks, t, e),
+        NumberForm::Constant(z) => Ok(z),
+        NumberForm::Variable(i) => carry(look_in(t, v, i), vars, masks, t, e),
         NumberForm::Binary(k, p, q) => {
-            let a = plain_number(read_number(x, vars, masks, t, v, p, n));
-            let b = plain_number(read_number(x, vars, masks, t, v, q, n));
-            carry_number(combine(k, a, b), vars, masks, t, e)
+            let a = read_number(x, vars, masks, t, v, p, n).ok();
+            let b = read_number(x, vars, masks, t, v, q, n).ok();
+            carry(combine(k, a, b), vars, masks, t, e)
         }
         NumberForm::If(c, p, q) => {
-            let u = plain_truth(read_truth(x, vars, masks, t, v, c, n));
-            let a = plain_number(read_number(x, vars, masks, t, v, p, n));
-            let b = plain_number(read_number(x, vars, masks, t, v, q, n));
-            carry_number(choose(u, a, b), vars, masks, t, e)
+            let u = read_truth(x, vars, masks, t, v, c, n).ok();
+            let a = read_number(x, vars, masks, t, v, p, n).ok();
+            let b = read_number(x, vars, masks, t, v, q, n).ok();
+            carry(choose(u, a, b), vars, masks, t, e)
         }
-        NumberForm::NoNumber => carry_number(Number::Unknown, vars, masks, t, e),
+        NumberForm::NoNumber => carry(None, vars, masks, t, e),
     }
 }
 
@@ -256,38 +180,45 @@ pub fn read_truth(
     v: &[i64],
     e: usize,
     left: usize,
-) -> TruthReading
+) -> Result<bool, usize>
     requires bounded { Bounded (entries_of x.now) (look_in t v.now) }
     requires e_le_field_limit { e ≤ field_limit }
     ensures { result ≡ carry_t (missing vars (get_or masks.now e 0) t) (truth_at (reading (look_in t v.now)) (entries_of x.now) left e) }
 {
     if left == 0 {
-        return carry_truth(Truth::Unknown, vars, masks, t, e);
+        return carry(None, vars, masks, t, e);
     }
     let n = left - 1;
     let f = expressions::truth_form(x, e);
     match f {
         TruthForm::Compare(k, p, q) => {
-            let a = plain_number(read_number(x, vars, masks, t, v, p, n));
-            let b = plain_number(read_number(x, vars, masks, t, v, q, n));
-            carry_truth(compare(k, a, b), vars, masks, t, e)
+            let a = read_number(x, vars, masks, t, v, p, n).ok();
+            let b = read_number(x, vars, masks, t, v, q, n).ok();
+            carry(compare(k, a, b), vars, masks, t, e)
         }
         TruthForm::Not(p) => {
-            let a = plain_truth(read_truth(x, vars, masks, t, v, p, n));
-            carry_truth(negate(a), vars, masks, t, e)
+            let a = read_truth(x, vars, masks, t, v, p, n).ok();
+            carry(negate(a), vars, masks, t, e)
         }
         TruthForm::Joined(k, p, q) => {
-            let a = plain_truth(read_truth(x, vars, masks, t, v, p, n));
-            let b = plain_truth(read_truth(x, vars, masks, t, v, q, n));
-            carry_truth(joined(k, a, b), vars, masks, t, e)
+            let a = read_truth(x, vars, masks, t, v, p, n).ok();
+            let b = read_truth(x, vars, masks, t, v, q, n).ok();
+            carry(joined(k, a, b), vars, masks, t, e)
         }
-        TruthForm::Always => TruthReading::True,
-        TruthForm::NoTruth => carry_truth(Truth::Unknown, vars, masks, t, e),
+        TruthForm::Always => Ok(true),
+        TruthForm::NoTruth => carry(None, vars, masks, t, e),
     }
 }
 
 // How entry e reads as a truth: no expression is deeper than `DEEPEST`, and an entry past the last mentions nothing.
-pub fn truth_at(x: &[u8], vars: usize, masks: &[u16], t: usize, v: &[i64], e: usize) -> TruthReading
+pub fn truth_at(
+    x: &[u8],
+    vars: usize,
+    masks: &[u16],
+    t: usize,
+    v: &[i64],
+    e: usize,
+) -> Result<bool, usize>
     requires ready { Ready (entries_of x.now) t v.now }
     requires masked { Masked (entries_of x.now) (count_of 8 x.now) masks.now }
     requires e_le_field_limit { e ≤ field_limit }
@@ -296,18 +227,7 @@ pub fn truth_at(x: &[u8], vars: usize, masks: &[u16], t: usize, v: &[i64], e: us
     if e < folder::count_of(8, x) {
         read_truth(x, vars, masks, t, v, e, DEEPEST)
     } else {
-        TruthReading::Lacks(NO_VARIABLE)
-    }
-}
-
-// Whether a truth reads true: an unknown one does not.
-fn is_true(t: Truth) -> bool
-    ensures { result ≡ is_true t }
-{
-    match t {
-        Truth::True => true,
-        Truth::False => false,
-        Truth::Unknown => false,
+        Err(NO_VARIABLE)
     }
 }
 
@@ -319,68 +239,60 @@ pub fn truth_in(x: &[u8], s: &[i64], e: usize) -> bool
     requires e_le_field_limit { e ≤ field_limit }
     ensures { result ≡ truth_in (entries_of x.now) s.now e }
 {
-    is_true(plain_truth(read_truth(x, 0, &[], ALL_TRACKED, s, e, DEEPEST)))
+    read_truth(x, 0, &[], ALL_TRACKED, s, e, DEEPEST)
+        .ok()
+        .unwrap_or(false)
 }
 
 // The readings of all entries in one label, as two rows: `known` has 1 for an entry that reads known, else 0, and `values`
-// its number, or 1 for true, else 0. Each entry is read from its parts, which stand below it.
+// its number, or 1 for true, else 0. Each entry is read from its parts, which stand below it. Two rows, since one of
+// Option<i64> would take 16 bytes for each entry where these take 9, and the stack that the C interface promises is short.
 
 // A truth as a number.
-pub fn as_number(a: Truth) -> Number
+pub fn as_number(a: Option<bool>) -> Option<i64>
     ensures { result ≡ as_number a }
 {
-    match a {
-        Truth::True => Number::Known(1),
-        Truth::False => Number::Known(0),
-        Truth::Unknown => Number::Unknown,
-    }
+    Some(i64::from(a?))
 }
 
-fn flag_of(a: Number) -> u8
+fn flag_of(a: Option<i64>) -> u8
     ensures { result ≡ flag_of a }
 {
-    match a {
-        Number::Known(_) => 1,
-        Number::Unknown => 0,
-    }
+    u8::from(a.is_some())
 }
 
-fn content_of(a: Number) -> i64
+fn content_of(a: Option<i64>) -> i64
     ensures { result ≡ content_of a }
 {
-    match a {
-        Number::Known(z) => z,
-        Number::Unknown => 0,
-    }
+    a.unwrap_or(0)
 }
 
 // The reading of entry e in the rows, as a number and as a truth.
-pub fn settled_number(known: &[u8], values: &[i64], e: usize) -> Number
+pub fn settled_number(known: &[u8], values: &[i64], e: usize) -> Option<i64>
     ensures { result ≡ number_from (get_or known.now e 0) (get_or values.now e (pos 0)) }
 {
-    if folder::byte_at(known, e) == 1 {
-        Number::Known(value_at(values, e))
+    if folder::get_or(known, e, 0) == 1 {
+        Some(folder::get_or(values, e, 0))
     } else {
-        Number::Unknown
+        None
     }
 }
 
-pub fn settled_truth(known: &[u8], values: &[i64], e: usize) -> Truth
+pub fn settled_truth(known: &[u8], values: &[i64], e: usize) -> Option<bool>
     ensures { result ≡ truth_from (get_or known.now e 0) (get_or values.now e (pos 0)) }
 {
-    if folder::byte_at(known, e) == 1 {
-        if whole::equal(value_at(values, e), 1) {
-            Truth::True
-        } else {
-            Truth::False
-        }
-    } else {
-        Truth::Unknown
-    }
+    Some(whole::equal(settled_number(known, values, e)?, 1))
 }
 
 // How entry e reads, from the rows of the entries below it.
-fn settle_number(x: &[u8], t: usize, v: &[i64], known: &[u8], values: &[i64], e: usize) -> Number
+fn settle_number(
+    x: &[u8],
+    t: usize,
+    v: &[i64],
+    known: &[u8],
+    values: &[i64],
+    e: usize,
+) -> Option<i64>
     requires ready { Ready (entries_of x.now) t v.now }
     requires settled { Settled (entries_of x.now) (look_in t v.now) e known.now values.now }
     requires e_le_field_limit { e ≤ field_limit }
@@ -388,7 +300,7 @@ fn settle_number(x: &[u8], t: usize, v: &[i64], known: &[u8], values: &[i64], e:
 {
     let f = expressions::number_form(x, e);
     match f {
-        NumberForm::Constant(z) => Number::Known(z),
+        NumberForm::Constant(z) => Some(z),
         NumberForm::Variable(i) => look_in(t, v, i),
         NumberForm::Binary(k, p, q) => {
             combine(
@@ -404,11 +316,18 @@ fn settle_number(x: &[u8], t: usize, v: &[i64], known: &[u8], values: &[i64], e:
                 settled_number(known, values, q),
             )
         }
-        NumberForm::NoNumber => Number::Unknown,
+        NumberForm::NoNumber => None,
     }
 }
 
-fn settle_truth(x: &[u8], t: usize, v: &[i64], known: &[u8], values: &[i64], e: usize) -> Truth
+fn settle_truth(
+    x: &[u8],
+    t: usize,
+    v: &[i64],
+    known: &[u8],
+    values: &[i64],
+    e: usize,
+) -> Option<bool>
     requires ready { Ready (entries_of x.now) t v.now }
     requires settled { Settled (entries_of x.now) (look_in t v.now) e known.now values.now }
     requires e_le_field_limit { e ≤ field_limit }
@@ -431,12 +350,19 @@ fn settle_truth(x: &[u8], t: usize, v: &[i64], known: &[u8], values: &[i64], e: 
                 settled_truth(known, values, q),
             )
         }
-        TruthForm::Always => Truth::True,
-        TruthForm::NoTruth => Truth::Unknown,
+        TruthForm::Always => Some(true),
+        TruthForm::NoTruth => None,
     }
 }
 
-fn settle_entry(x: &[u8], t: usize, v: &[i64], known: &[u8], values: &[i64], e: usize) -> Number
+fn settle_entry(
+    x: &[u8],
+    t: usize,
+    v: &[i64],
+    known: &[u8],
+    values: &[i64],
+    e: usize,
+) -> Option<i64>
     requires ready { Ready (entries_of x.now) t v.now }
     requires settled { Settled (entries_of x.now) (look_in t v.now) e known.now values.now }
     requires e_le_field_limit { e ≤ field_limit }
@@ -457,12 +383,9 @@ pub fn settle(x: &[u8], t: usize, v: &[i64], known: &mut [u8], values: &mut [i64
     ensures known_after { known.new ≡ fill (count_of 8 x.now) (flag_at (entries_of x.now) (look_in t v.now)) known.old }
     ensures values_after { values.new ≡ fill (count_of 8 x.now) (content_at (entries_of x.now) (look_in t v.now)) values.old }
 {
-    let n = folder::count_of(8, x);
-    let mut e = 0;
-    while e < n {
+    for e in 0..folder::count_of(8, x) {
         let r = settle_entry(x, t, v, known, values, e);
         known[e] = flag_of(r);
         values[e] = content_of(r);
-        e += 1;
     }
 }

@@ -22,8 +22,7 @@ use Rattle.whole.specs.Order.{eq_z}
 use Rattle.expressions.specs.Limits.{most_expressions, no_variable}
 use Rattle.expressions.specs.Reading.{reads}
 use Rattle.expressions.specs.Right.{IsNumber}
-use Rattle.expressions.specs.declared.Number.{Number}
-use Rattle.expressions.specs.declared.Number.TheVariants.{Known, Unknown as Open}
+use Rattle.expressions.specs.ThreeWay.{Number}
 use Rattle.states.specs.Needed.{is_up, Up}
 use Rattle.states.specs.Read.{is_known_number, reads_known}
 use Rattle.model.specs.Model.{Model, model_of, first_record}
@@ -39,6 +38,17 @@ use Rattle.expand.specs.Node.{NodeOf, NodeRead, LabelWidened}
 use Rattle.expand.specs.Tests.{reads_at}
 use Rattle.expand.specs.Follow.{label_flagged, follows_by, successor_by, edge_by, edges_by, bad_edge_by, bad_branch_by, bad_record_by, bad_successor_by, apart_in, second_by, flags_of, FollowedTo, open_entry}
 use Rattle.expand.proofs.Readings.{number-known, known-number}
+use Rattle.std.specs.Prelude.{Option, None, Some}
+
+abbrev taken : Option ℕ → ℕ
+taken (Some x) = x
+taken None = 0
+
+some-same : {a b : ℕ} → ◌≡◌ {A = Option ℕ} (Some a) (Some b) → a ≡ b
+some-same e = ap taken e
+
+none-some : {a : ℕ} → ◌≡◌ {A = Option ℕ} None (Some a) → ⊥
+none-some e = let z : ◌≡◌ {A = ℕ} 0 1 = cc in omega arith
 
 module _ {m g : List ℕ} {n : ℕ} (node : NodeOf m g n) where
   abbrev M : Model
@@ -155,7 +165,7 @@ module _ {m g : List ℕ} {n : ℕ} (node : NodeOf m g n) where
     assigned-number : (r v : ℕ) → r < M.records → v < M.variables → IsNumber M.entries (M.assigned r v)
     assigned-number r v l k = (node.model.model.branches r l).number v k
 
-    up-known : (a : ℕ) → IsNumber M.entries a → is_up known a ≡ true → number_of M G n a ≡ Known (get_or state a (pos 0))
+    up-known : (a : ℕ) → IsNumber M.entries a → is_up known a ≡ true → number_of M G n a ≡ Some (get_or state a (pos 0))
     up-known a i k = known-number node h read.stated i (read.flagged.sound a i.there (eqb-true (get_or known a 0) 1 k))
 
     flags-weaker : (r s v : ℕ) → r < M.records → v < M.variables → label_flagged M G known state r s v ≡ true → label_follows M G n r s v ≡ true
@@ -180,8 +190,8 @@ module _ {m g : List ℕ} {n : ℕ} (node : NodeOf m g n) where
         rw p.0 (go (is_up known (M.assigned r v)) refl p.1)
       where
         open-so : (a : Number) → is_known_number a ≡ false → (z : ℤ) → reads a z ≡ false
-        open-so (Known y) b z = absurd (false≢true (sym b))
-        open-so Open b z = refl
+        open-so (Some y) b z = absurd (false≢true (sym b))
+        open-so None b z = refl
 
         go : (t : Bool) → is_up known (M.assigned r v) ≡ t → (t && eq_z (get_or state (M.assigned r v) (pos 0)) (G.label s v)) ≡ false → reads (number_of M G n (M.assigned r v)) (G.label s v) ≡ false
         go true u f = ap (λ (z : Number). reads z (G.label s v)) (up-known (M.assigned r v) (assigned-number r v l k) u) ∙ f
@@ -190,17 +200,10 @@ module _ {m g : List ℕ} {n : ℕ} (node : NodeOf m g n) where
     abbrev flags : ℕ → ℕ → ℕ → Bool
     flags = label_flagged M G known state
 
-    pub all-follow : {t : Bool} → t ≡ edges_by M G n flags → t ≡ true → true ≡ edges_follow M G n
-    all-follow q k = sym (sym edges-rule ∙ edges-hold flags (label_follows M G n) flags-weaker (sym q ∙ k))
+    pub all-follow : edges_by M G n flags ≡ true → true ≡ edges_follow M G n
+    all-follow k = sym (sym edges-rule ∙ edges-hold flags (label_follows M G n) flags-weaker k)
 
-    module _ {t : Bool} (q : t ≡ edges_by M G n flags) (k : t ≡ false) where
-      broken : edges_by M G n flags ≡ false
-      broken = sym q ∙ k
-
-      -- The entry to ask.
-      asked : {r v e : ℕ} → r ≡ bad_record_by M G n flags → v ≡ second_by M G n flags → e ≡ open_entry M known r v → e ≡ open_entry M known (bad_record_by M G n flags) (second_by M G n flags)
-      asked p o i = i ∙ ap₂ (open_entry M known) p o
-
+    module _ (broken : edges_by M G n flags ≡ false) where
       module _ (unknown : second_by M G n flags < M.variables → is_up known (M.assigned (bad_record_by M G n flags) (second_by M G n flags)) ≡ false
           → reads_known M.entries (label_of M G n) (M.assigned (bad_record_by M G n flags) (second_by M G n flags)) ≡ false) where
         decided : second_by M G n flags < M.variables → label_follows M G n (bad_record_by M G n flags) (bad_successor_by M G n flags) (second_by M G n flags) ≡ false
@@ -221,11 +224,7 @@ module _ {m g : List ℕ} {n : ℕ} (node : NodeOf m g n) where
       pub record-small : {r : ℕ} → r ≡ bad_record_by M G n flags → r ≤ field_limit
       record-small p = omega (arith, record-here flags (label_follows M G n) flags-weaker broken, (limits node.model.folder).records)
 
-      open_by : (c : Bool) (a : ℕ) → a < most_expressions → (pick c a most_expressions ≡ most_expressions → c ≡ false) × ((pick c a most_expressions ≡ most_expressions → ⊥) → (c ≡ true) × (pick c a most_expressions ≡ a))
-      open_by true a l = ((λ e. absurd (omega arith)), λ d. (refl, refl))
-      open_by false a l = ((λ e. refl), λ d. absurd (d refl))
-
-      module _ {r v e : ℕ} (p : r ≡ bad_record_by M G n flags) (o : v ≡ second_by M G n flags) (i : e ≡ open_entry M known r v) where
+      module _ {r v : ℕ} (p : r ≡ bad_record_by M G n flags) (o : v ≡ second_by M G n flags) where
         abbrev entry : ℕ
         entry = M.assigned (bad_record_by M G n flags) (second_by M G n flags)
 
@@ -235,22 +234,24 @@ module _ {m g : List ℕ} {n : ℕ} (node : NodeOf m g n) where
         entry_here : second_by M G n flags < M.variables → entry < M.entries.count
         entry_here l = (assigned-number _ _ (record-here flags (label_follows M G n) flags-weaker broken) l).there
 
-        -- No entry is to be asked: the one that breaks it is flagged.
-        pub none_open : e ≡ most_expressions → second_by M G n flags < M.variables → is_up known entry ≡ false → reads_known M.entries (label_of M G n) entry ≡ false
+        -- What is to be asked.
+        asked : {x : Option ℕ} → x ≡ open_entry M known r v → x ≡ pick is_open (Some entry) None
         unfolding open_entry
-        none_open q l d =
-            let w = (open_by is_open entry (omega (arith, entry_here l, (limits node.model.folder).expressions))).0 (sym (asked p o i) ∙ q) in
-            absurd (false≢true (sym w ∙ rw (lt-ltb (second_by M G n flags) M.variables l, d) refl))
+        asked i = i ∙ ap₂ (open_entry M known) p o
 
-        pub one-open : (e ≡ most_expressions → ⊥) → (e < M.entries.count) × (is_up known e ≡ false) × (e ≡ entry)
-        unfolding open_entry
-        one-open d = go is_open refl (asked p o i)
+        -- No entry: the one that breaks it is flagged.
+        pub none_open : None ≡ open_entry M known r v → second_by M G n flags < M.variables → is_up known entry ≡ false → reads_known M.entries (label_of M G n) entry ≡ false
+        none_open i l d = absurd (none-some {a = entry} (asked i ∙ rw (lt-ltb (second_by M G n flags) M.variables l, d) refl))
+
+        pub one-open : {e : ℕ} → Some e ≡ open_entry M known r v → (e < M.entries.count) × (is_up known e ≡ false) × (e ≡ entry)
+        one-open {e} i = go is_open refl (asked i)
           where
-            go : (c : Bool) → is_open ≡ c → e ≡ pick c entry most_expressions → (e < M.entries.count) × (is_up known e ≡ false) × (e ≡ entry)
-            go true c q =
+            go : (c : Bool) → is_open ≡ c → Some e ≡ pick c (Some entry) None → (e < M.entries.count) × (is_up known e ≡ false) × (e ≡ entry)
+            go true c j =
                 let w = and_both (ltb (second_by M G n flags) M.variables) (not (is_up known entry)) c in
+                let q = some-same j in
                 (rw q (entry_here (ltb-true _ _ w.0)), ap (is_up known) q ∙ not-true (is_up known entry) w.1, q)
-            go false c q = absurd (d q)
+            go false c j = absurd (none-some (sym j))
 
 -- ---- how far the walk over the edges has come
 pub at-start : (m g : List ℕ) (n : ℕ) (label : ℕ → ℕ → ℕ → Bool) {p : ℕ} → p ≡ starts_at (model_of m) g n → FollowedTo m g n label 0 p

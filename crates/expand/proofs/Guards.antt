@@ -1,11 +1,12 @@
 -- The guards, as they are asked one after the other; and the target.
 -- Assumes nothing.
 use Prim.Native.Nat.{ℕ, ◌<◌}
-use mathlib.Core.Path.{◌≡◌, sym, ap, ◌∙◌}
-use mathlib.Core.Bool.{Bool, true, false, not}
+use mathlib.Core.Path.{◌≡◌, refl, sym, ap, ◌∙◌}
+use mathlib.Core.Bool.{Bool, true, false, not, beq}
 use mathlib.Core.List.{List}
 use native.Mathlib.Omega.{arith}
-use borrow.Author.Tests.{eqb-true}
+use borrow.Author.Tests.{eqb-true, ne_eqb}
+use lib.Dec.{eqb}
 use lib.ListN.{length}
 use lib.IntN.{ℤ}
 use Rattle.folder.specs.Pick.{pick}
@@ -50,13 +51,17 @@ module _ {m g : List ℕ} {n : ℕ} (node : NodeOf m g n) where
     pub guard-answer : {before after : List ℕ} → LabelWidened m g n e before after → {t : Bool} → t ≡ is_up after e → t ≡ is_known (truth_of (model_of m) (simulation_of (model_of m) g) n ((model_of m).guard c))
     guard-answer w h = truth-answer (node.model.model.commands c (omega arith)).guard guard-is w h
 
-    pub guard-open : c ≡ open_guard (model_of m) (simulation_of (model_of m) g) n → false ≡ is_known (truth_of (model_of m) (simulation_of (model_of m) g) n e)
-    guard-open h = sym (ap (λ (i : ℕ). is_known (truth_of (model_of m) (simulation_of (model_of m) g) n i)) guard-is
-        ∙ ap (λ (i : ℕ). is_known (truth_of (model_of m) (simulation_of (model_of m) g) n ((model_of m).guard i))) h
-        ∙ (found (λ i. is_known (truth_of (model_of m) (simulation_of (model_of m) g) n ((model_of m).guard i))) (model_of m).commands).broken (omega arith))
+    pub guard-unknown : {before after : List ℕ} → LabelWidened m g n e before after → {t : Bool} → t ≡ is_up after e → t ≡ is_known (truth_of (model_of m) (simulation_of (model_of m) g) n e)
+    guard-unknown w h = truth-answer guard-there refl w h
 
-    pub guard-lacked : {v : ℕ} → v ≡ lacked (reading_of (model_of m) (simulation_of (model_of m) g) n e) → v ≡ lacked (reading_of (model_of m) (simulation_of (model_of m) g) n ((model_of m).guard c))
-    guard-lacked h = h ∙ ap (λ (i : ℕ). lacked (reading_of (model_of m) (simulation_of (model_of m) g) n i)) guard-is
+    -- It is the first that does not read known.
+    pub guards-open : c ≡ open_guard (model_of m) (simulation_of (model_of m) g) n → {v : ℕ} → v ≡ lacked (reading_of (model_of m) (simulation_of (model_of m) g) n e)
+        → (eqb (open_guard (model_of m) (simulation_of (model_of m) g) n) (model_of m).commands ≡ false)
+        × (v ≡ lacked (reading_of (model_of m) (simulation_of (model_of m) g) n ((model_of m).guard (open_guard (model_of m) (simulation_of (model_of m) g) n))))
+    guards-open h i = (
+      ne_eqb _ _ (λ q. omega arith),
+      i ∙ ap (λ (j : ℕ). lacked (reading_of (model_of m) (simulation_of (model_of m) g) n j)) (guard-is ∙ ap (model_of m).guard h),
+    )
 
   -- The guards before the first that is not flagged read known.
   pub flagged-known : {known : List ℕ} → LabelFlagged m g n known → {cs : List ℕ} {commands c : ℕ} → cs ≡ body m 3 → commands ≡ (model_of m).commands → c ≡ first_bad (λ i. is_up known (field 4 cs i 0)) commands
@@ -85,6 +90,13 @@ module _ {m g : List ℕ} {n : ℕ} (node : NodeOf m g n) where
     pub lacked-at : {v : ℕ} → v ≡ lacked (reading_of (model_of m) (simulation_of (model_of m) g) n e) → v ≡ lacked (reading_of (model_of m) (simulation_of (model_of m) g) n (model_of m).target)
     lacked-at h = h ∙ ap (λ (i : ℕ). lacked (reading_of (model_of m) (simulation_of (model_of m) g) n i)) target_is
 
-  pub due-of : A1 (model_of m) (simulation_of (model_of m) g) n ≡ true → {state : List ℤ} → StateSettled m g n state → {ts : List ℕ} {e : ℕ} → ts ≡ body m 0 → e ≡ field 4 ts 0 1
-      → is_known (truth_of (model_of m) (simulation_of (model_of m) g) n (model_of m).target) ≡ true → (due : Bool) {h t : Bool} → h ≡ holds_at state e → t ≡ pick due h (not h) → t ≡ target_reads (model_of m) (simulation_of (model_of m) g) n due
-  due-of a {state} s q p k due i j = j ∙ ap (λ (b : Bool). pick due b (not b)) (i ∙ ap (holds_at state) (target_is q p)) ∙ sym (target-known node a s due k)
+  module _ (a : A1 (model_of m) (simulation_of (model_of m) g) n ≡ true) {state : List ℤ} (s : StateSettled m g n state) {ts : List ℕ} {e : ℕ} (q : ts ≡ body m 0) (p : e ≡ field 4 ts 0 1)
+      (k : is_known (truth_of (model_of m) (simulation_of (model_of m) g) n (model_of m).target) ≡ true) (due : Bool) {h : Bool} (i : h ≡ holds_at state e) where
+    pub due-is : beq h due ≡ target_reads (model_of m) (simulation_of (model_of m) g) n due
+    due-is = same due h ∙ ap (λ (b : Bool). pick due b (not b)) (i ∙ ap (holds_at state) (target_is q p)) ∙ sym (target-known node a s due k)
+      where
+        same : (d b : Bool) → beq b d ≡ pick d b (not b)
+        same true true = refl
+        same true false = refl
+        same false true = refl
+        same false false = refl

@@ -6,7 +6,7 @@ use mathlib.Core.Bool.{Bool, true, false}
 use mathlib.Core.List.{List}
 use borrow.Author.Tests.{lt-ltb, le-ltb}
 use Rattle.folder.specs.Contents.{body, field}
-use Rattle.expressions.specs.Limits.{most_expressions}
+use Rattle.std.specs.Prelude.{Some, None}
 use Rattle.states.specs.Needed.{is_up}
 use Rattle.model.specs.Layout.{variable_count}
 use Rattle.model.specs.Model.{model_of}
@@ -17,14 +17,14 @@ module _ (m known : List ℕ) (r : ℕ) {vars v : ℕ} (p : vars ≡ variable_co
     entry-is : e ≡ (model_of m).assigned r v
     entry-is = h ∙ rw (p, q) refl
 
-    pub opened : t ≡ false → e ≡ open_entry (model_of m) known r v
+    pub opened : t ≡ false → Some e ≡ open_entry (model_of m) known r v
     unfolding open_entry
-    opened f = entry-is ∙ rw (lt-ltb v (variable_count m) (rw p at l), sym (ap (is_up known) entry-is) ∙ sym k ∙ f) refl
+    opened f = ap Some entry-is ∙ rw (lt-ltb v (variable_count m) (rw p at l), sym (ap (is_up known) entry-is) ∙ sym k ∙ f) refl
 
-    pub shut : t ≡ true → most_expressions ≡ open_entry (model_of m) known r v
+    pub shut : t ≡ true → None ≡ open_entry (model_of m) known r v
     unfolding open_entry
     shut f = rw (lt-ltb v (variable_count m) (rw p at l), sym (ap (is_up known) entry-is) ∙ sym k ∙ f) refl
 
-  pub past-last : vars ≤ v → most_expressions ≡ open_entry (model_of m) known r v
+  pub past-last : vars ≤ v → None ≡ open_entry (model_of m) known r v
   unfolding open_entry
   past-last l = rw (le-ltb v (variable_count m) (rw p at l)) refl

@@ -19,8 +19,7 @@ use Rattle.expressions.specs.Meaning.{value_of}
 use Rattle.expressions.specs.Reading.{look_in}
 use Rattle.expressions.specs.Ranges.{bound_in}
 use Rattle.expressions.specs.Combinations.{Label, Holds, Proper}
-use Rattle.expressions.specs.declared.Number.{Number}
-use Rattle.expressions.specs.declared.Number.TheVariants.{Known, Unknown as Open}
+use Rattle.expressions.specs.ThreeWay.{Number}
 use Rattle.expressions.proofs.Interval.{In, bound-here}
 use Rattle.evaluate.specs.Formed.{Formed, Ready, Grounded}
 use Rattle.evaluate.specs.Settled.{flag_of, content_of, entry_reading, Settled}
@@ -41,6 +40,7 @@ use Rattle.graph.specs.Rules.{A1}
 use Rattle.graph.proofs.Decided.{a1-decided}
 use Rattle.graph.proofs.Labelled.{tracked-there, concrete-in-range, proper, holds}
 use Rattle.expand.specs.Node.{NodeOf, LabelFlagged, LabelWidened, FlaggedSettled, StateSettled, NodeRead, MasksOf}
+use Rattle.std.specs.Prelude.{None, Some}
 
 -- The same body, set and values by other names.
 pub settled-as : {x y : List ℕ} {t u : ℕ} {v w : List ℤ} {known : List ℕ} {values : List ℤ} → x ≡ y → t ≡ u → v ≡ w
@@ -149,13 +149,13 @@ module _ {m g : List ℕ} {n : ℕ} (node : NodeOf m g n) where
       unknown = λ e l d. open-so (entry_reading M.entries (look_in (G.tracked n) (tab M.variables (G.label n))) e) (λ u. d (s.flags e l ∙ u));
     }
       where
-        open-so : (a : Number) → (flag_of a ≡ 1 → ⊥) → a ≡ Open
-        open-so (Known z) d = absurd (d refl)
-        open-so Open d = refl
+        open-so : (a : Number) → (flag_of a ≡ 1 → ⊥) → a ≡ None
+        open-so (Some z) d = absurd (d refl)
+        open-so None d = refl
 
         known_so : (e : ℕ) → e < M.entries.count → (a : Number) → entry_reading M.entries (look_in (G.tracked n) (tab M.variables (G.label n))) e ≡ a → flag_of a ≡ 1 → reads_known M.entries (label_of M G n) e ≡ true
-        known_so e l (Known z) q k = stays-known M.entries (label_of M G n) e M.variables (formed.right e l) label-proper z q
-        known_so e l Open q k = absurd (omega arith)
+        known_so e l (Some z) q k = stays-known M.entries (label_of M G n) e M.variables (formed.right e l) label-proper z q
+        known_so e l None q k = absurd (omega arith)
 
     -- And is in the state what it reads.
     pub label-stated : {known : List ℕ} {values : List ℤ} → Settled M.entries (look_in (G.tracked n) (tab M.variables (G.label n))) M.entries.count known values → FlaggedSettled m g n known values
@@ -164,8 +164,8 @@ module _ {m g : List ℕ} {n : ℕ} (node : NodeOf m g n) where
     }
       where
         go : (e : ℕ) → e < M.entries.count → (a : Number) → entry_reading M.entries (look_in (G.tracked n) (tab M.variables (G.label n))) e ≡ a → flag_of a ≡ 1 → get_or values e (pos 0) ≡ entry_in M.entries (concrete_state M G n) e
-        go e l (Known z) q k = s.contents e l ∙ ap content_of q ∙ sym (three-is M.entries (label_of M G n) e M.variables (formed.right e l) label-proper (concrete_state M G n) own-holds z q)
-        go e l Open q k = absurd (omega arith)
+        go e l (Some z) q k = s.contents e l ∙ ap content_of q ∙ sym (three-is M.entries (label_of M G n) e M.variables (formed.right e l) label-proper (concrete_state M G n) own-holds z q)
+        go e l None q k = absurd (omega arith)
 
     module _ {known : List ℕ} {state : List ℤ} (read : NodeRead m g n known state) {masks : List ℕ} (masked : MasksOf m masks) {e : ℕ} (l : e < M.entries.count) (down : is_up known e ≡ false) where
       asked_here : Asked M.entries (body m 1) (tab M.variables (G.label n)) masks state known e (G.tracked n)

@@ -4,10 +4,9 @@
 
 #![tactic(auto)]
 
-ghost use Rattle.std.specs.Prelude.{◌≡◌, true, false, not, ◌+◌, ◌*◌, ◌<◌, ◌≤◌, ◌^◌, length, get_or, pos};
+ghost use Rattle.std.specs.Prelude.{◌≡◌, true, false, MatchResult, ◌+◌, ◌*◌, ◌<◌, ◌≤◌, ◌^◌, length, get_or, pos};
 ghost use Rattle.folder.specs.Fields.{field_limit, u16, signed16};
 ghost use Rattle.folder.specs.Contents.{field};
-ghost use Rattle.folder.specs.Pick.{pick};
 ghost use Rattle.folder.specs.Scan.{all, first_bad};
 ghost use Rattle.folder.specs.Tab.{fill};
 ghost use Rattle.expressions.specs.Mentions.{lacked};
@@ -21,13 +20,13 @@ ghost use Rattle.model.specs.Valid.{Valid};
 ghost use Rattle.graph.specs.Simulation.{node_size, node_field, command_in, simulation_of};
 ghost use Rattle.graph.specs.Labels.{truth_of, reading_of};
 ghost use Rattle.graph.specs.Rules.{A1, A2, same_edges, B1, B2};
-ghost use Rattle.graph.specs.Seconds.{open_guard, second19, second21};
+ghost use Rattle.graph.specs.Seconds.{second19, second21};
 ghost use Rattle.graph.specs.Walks.{starts_at};
 ghost use Rattle.expand.specs.Node.{NodeOf, LabelFlagged, LabelWidened, FlaggedSettled, StateSettled, Askable, GuardsSettled, FirstsOf, MasksOf, RowsLong};
 ghost use Rattle.expand.specs.Tests.{holds_at, reads_at, names_at, Leads, AllLead, result_at, label_at, variable_follows, branch_follows, branch_at, apart_by};
-ghost use Rattle.expand.specs.Follow.{target_reads, edges_by, bad_record_by, second_by, flags_of, FollowedTo, open_entry};
+ghost use Rattle.expand.specs.Follow.{RuleAnswer, GuardsKnown, TargetKept, edges_by, flags_of, FollowedTo, StoppedAt, open_entry};
 
-use expressions::{MOST_EXPRESSIONS, MOST_VARIABLES, NO_VARIABLE};
+use expressions::{MOST_VARIABLES, NO_VARIABLE};
 use graph::{EXPANDED, TARGET};
 
 // Fills the front of a row with the values of node n whose first is field f: 6 for the concrete label, and as many more
@@ -38,11 +37,7 @@ pub fn load_row(nb: &[u8], vars: usize, n: usize, f: usize, row: &mut [i64])
     ensures { row.new ≡ fill vars (λ v. signed16 (field (node_size vars) nb.now n (f + v))) row.old }
 {
     let size = graph::node_size(vars);
-    let mut v = 0;
-    while v < vars {
-        row[v] = folder::signed_field(size, nb, n, f + v);
-        v += 1;
-    }
+    folder::fill(row, vars, |v| folder::signed_field(size, nb, n, f + v));
 }
 
 fn command_count(m: &[u8]) -> usize
@@ -103,14 +98,14 @@ pub fn settle_state(m: &[u8], g: &[u8], n: usize, known: &[u8], state: &mut [i64
 fn known_at(known: &[u8], e: usize) -> bool
     ensures { result ≡ is_up known.now e }
 {
-    folder::byte_at(known, e) == 1
+    folder::get_or(known, e, 0) == 1
 }
 
 // And it holds in the state.
 fn holds_at(state: &[i64], e: usize) -> bool
     ensures { result ≡ holds_at state.now e }
 {
-    whole::equal(evaluate::value_at(state, e), 1)
+    whole::equal(folder::get_or(state, e, 0), 1)
 }
 
 // Reads entry e, which is not flagged, by all states of the label of node n.
@@ -156,75 +151,48 @@ fn unflagged_guard(cs: &[u8], commands: usize, known: &[u8]) -> usize
     requires { commands ≤ field_limit }
     ensures { result ≡ first_bad (λ c. is_up known.now (field 4 cs.now c 0)) commands }
 {
-    let mut c = 0;
-    while c < commands {
-        if known_at(known, folder::field(4, cs, c, 0)) {
-            c += 1;
-        } else {
-            return c;
-        }
-    }
-    c
+    folder::first_bad(commands, |c| known_at(known, folder::field(4, cs, c, 0)))
 }
 
-// The first of the commands whose guard does not read known; their count if each does. Where all are flagged, as most often,
-// none is asked.
-fn open_guard(m: &[u8], g: &[u8], n: usize, masks: &[u16], state: &[i64], known: &mut [u8]) -> usize
+// The variable that entry e, which reads unknown, lacks in the label of node n.
+fn lacked_by(m: &[u8], g: &[u8], n: usize, masks: &[u16], e: usize) -> usize
+    requires node_of { NodeOf m.now g.now n }
+    requires masks_of { MasksOf m.now masks.now }
+    requires truth { IsTruth (model_of m.now).entries e }
+    requires unknown { false ≡ is_known (truth_of (model_of m.now) (simulation_of (model_of m.now) g.now) n e) }
+    ensures { result ≡ lacked (reading_of (model_of m.now) (simulation_of (model_of m.now) g.now) n e) }
+{
+    let vars = graph::variable_count(m);
+    let set = node_field(m, g, n, 5);
+    mentions::missing_of(vars, mentions::mask_at(masks, e), set)
+}
+
+// All guards read known; else the second place by the first that does not. Where all are flagged, as most often, none is
+// asked.
+fn guards_known(
+    m: &[u8],
+    g: &[u8],
+    n: usize,
+    masks: &[u16],
+    state: &[i64],
+    known: &mut [u8],
+) -> Result<(), usize>
     requires { Askable m.now g.now n masks.now known.old state.now }
-    ensures value { result ≡ open_guard (model_of m.now) (simulation_of (model_of m.now) g.now) n }
+    ensures value { GuardsKnown (model_of m.now) (simulation_of (model_of m.now) g.now) n result }
     ensures label_flagged { LabelFlagged m.now g.now n known.new }
 {
     let cs = folder::body(m, 3);
     let commands = command_count(m);
-    let mut c = unflagged_guard(cs, commands, known);
-    while c < commands {
-        if ask(m, g, n, masks, state, folder::field(4, cs, c, 0), known) {
-            c += 1;
-        } else {
-            return c;
+    for c in unflagged_guard(cs, commands, known)..commands {
+        let guard = folder::field(4, cs, c, 0);
+        if !ask(m, g, n, masks, state, guard, known) {
+            return Err(lacked_by(m, g, n, masks, guard));
         }
     }
-    c
+    Ok(())
 }
 
-// A rule of a node: whether it holds, and if not, the second place of its refusal.
-#[derive(Clone, Copy)]
-pub struct Kept {
-    pub holds: bool,
-    pub second: usize,
-}
-
-// A2 broken by entry e, a guard or the target: the variable that it lacks in the label of node n; none if it reads known.
-fn broken_by(m: &[u8], g: &[u8], n: usize, masks: &[u16], e: usize, definite: bool) -> Kept
-    requires node_of { NodeOf m.now g.now n }
-    requires masks_of { MasksOf m.now masks.now }
-    requires truth { IsTruth (model_of m.now).entries e }
-    requires definite_value { definite ≡ is_known (truth_of (model_of m.now) (simulation_of (model_of m.now) g.now) n e) }
-    ensures { (result.holds ≡ false) × (result.second ≡ lacked (reading_of (model_of m.now) (simulation_of (model_of m.now) g.now) n e)) }
-{
-    if definite {
-        return Kept {
-            holds: false,
-            second: NO_VARIABLE,
-        };
-    }
-    let vars = graph::variable_count(m);
-    let set = node_field(m, g, n, 5);
-    let second = mentions::missing_of(vars, mentions::mask_at(masks, e), set);
-    Kept {
-        holds: false,
-        second,
-    }
-}
-
-// A truth is as it is due.
-fn as_due(holds: bool, due: bool) -> bool
-    ensures { result ≡ pick due holds (not holds) }
-{
-    if due { holds } else { !holds }
-}
-
-// The target of node n reads as it must, true or not.
+// The target of node n reads as it must, true or not; else the second place. One that reads known lacks no variable.
 fn target_kept(
     m: &[u8],
     g: &[u8],
@@ -233,62 +201,42 @@ fn target_kept(
     state: &[i64],
     due: bool,
     known: &mut [u8],
-) -> Kept
+) -> Result<(), usize>
     requires { Askable m.now g.now n masks.now known.old state.now }
-    ensures holds_value { (result.holds ≡ target_reads (model_of m.now) (simulation_of (model_of m.now) g.now) n due) × (result.holds ≡ false → result.second ≡ lacked (reading_of (model_of m.now) (simulation_of (model_of m.now) g.now) n (model_of m.now).target)) }
+    ensures value { TargetKept (model_of m.now) (simulation_of (model_of m.now) g.now) n due result }
     ensures label_flagged { LabelFlagged m.now g.now n known.new }
 {
     let target = folder::field(4, folder::body(m, 0), 0, 1);
     if !ask(m, g, n, masks, state, target, known) {
-        return broken_by(m, g, n, masks, target, false);
+        return Err(lacked_by(m, g, n, masks, target));
     }
-    if as_due(holds_at(state, target), due) {
-        return Kept {
-            holds: true,
-            second: 0,
-        };
+    if holds_at(state, target) == due {
+        Ok(())
+    } else {
+        Err(NO_VARIABLE)
     }
-    broken_by(m, g, n, masks, target, true)
 }
 
-// A2 of an expanded node: its guards by command, then the target.
-fn expanded_kept(
+// Row 19: of an expanded node the guards by command, then the target. Else the second place of its refusal.
+pub fn a2(
     m: &[u8],
     g: &[u8],
     n: usize,
     masks: &[u16],
     state: &[i64],
     known: &mut [u8],
-) -> Kept
-    requires askable { Askable m.now g.now n masks.now known.old state.now }
-    requires n_value { (simulation_of (model_of m.now) g.now).kind n ≡ 1 }
-    ensures holds_value { (result.holds ≡ A2 (model_of m.now) (simulation_of (model_of m.now) g.now) n) × (result.holds ≡ false → result.second ≡ second19 (model_of m.now) (simulation_of (model_of m.now) g.now) n) }
-    ensures label_flagged { LabelFlagged m.now g.now n known.new }
-{
-    let c = open_guard(m, g, n, masks, state, known);
-    if c < command_count(m) {
-        let guard = folder::field(4, folder::body(m, 3), c, 0);
-        return broken_by(m, g, n, masks, guard, false);
-    }
-    target_kept(m, g, n, masks, state, false, known)
-}
-
-// Row 19.
-pub fn a2(m: &[u8], g: &[u8], n: usize, masks: &[u16], state: &[i64], known: &mut [u8]) -> Kept
+) -> Result<(), usize>
     requires { Askable m.now g.now n masks.now known.old state.now }
-    ensures holds_value { (result.holds ≡ A2 (model_of m.now) (simulation_of (model_of m.now) g.now) n) × (result.holds ≡ false → result.second ≡ second19 (model_of m.now) (simulation_of (model_of m.now) g.now) n) }
+    ensures value { RuleAnswer (A2 (model_of m.now) (simulation_of (model_of m.now) g.now) n) (second19 (model_of m.now) (simulation_of (model_of m.now) g.now) n) result }
     ensures label_flagged { LabelFlagged m.now g.now n known.new }
 {
-    let kind = node_field(m, g, n, 0);
-    if kind == EXPANDED {
-        return expanded_kept(m, g, n, masks, state, known);
-    }
-    if kind == TARGET {
-        return target_kept(m, g, n, masks, state, true, known);
-    }
-    Kept {
-        holds: true,
-        second: 0,
+    match node_field(m, g, n, 0) {
+        EXPANDED => {
+            guards_known(m, g, n, masks, state, known)?;
+            target_kept(m, g, n, masks, state, false, known)
+        }
+        TARGET => target_kept(m, g, n, masks, state, true, known),
+        _ => Ok(()),
     }
 }
 
@@ -314,8 +262,7 @@ fn edges_enabled(m: &[u8], g: &[u8], n: usize, at: usize, state: &[i64]) -> bool
     let edges = node_field(m, g, n, 4);
     let mut k = 0;
     let mut p = at;
-    let mut c = 0;
-    while c < commands {
+    for c in 0..commands {
         if holds_at(state, folder::field(4, cs, c, 0)) {
             if names_at(eb, edges, k, p, c) {
                 p += graph::edge_size(cs, eb, p);
@@ -324,7 +271,6 @@ fn edges_enabled(m: &[u8], g: &[u8], n: usize, at: usize, state: &[i64]) -> bool
                 return false;
             }
         }
-        c += 1;
     }
     k == edges
 }
@@ -449,52 +395,10 @@ fn branch_follows(
     ensures { result ≡ branch_follows vars nb.now bs.now known.now state.now r s }
 {
     let lead = lead_of(vars, nb, r, s);
-    let mut v = 0;
-    while v < vars {
-        if variable_follows(vars, nb, bs, known, state, lead, v) {
-            v += 1;
-        } else {
-            return false;
-        }
-    }
-    true
-}
-
-// The concrete label of the node is the branch's result, in all variables.
-fn results_are(vars: usize, nb: &[u8], bs: &[u8], state: &[i64], lead: Lead) -> bool
-    requires vars_le_most_variables { vars ≤ most_variables }
-    requires leads { Leads vars nb.now bs.now lead.from lead.to }
-    requires most_expressions_in_bounds { most_expressions ≤ length state.now }
-    ensures { result ≡ all (result_at vars nb.now bs.now state.now lead.from lead.to) vars }
-{
-    let mut v = 0;
-    while v < vars {
-        if result_is(vars, nb, bs, state, lead, v) {
-            v += 1;
-        } else {
-            return false;
-        }
-    }
-    true
-}
-
-// The first variable that the node tracks and that does not read so in the label.
-fn first_apart(vars: usize, nb: &[u8], bs: &[u8], known: &[u8], state: &[i64], lead: Lead) -> usize
-    requires vars_le_most_variables { vars ≤ most_variables }
-    requires leads { Leads vars nb.now bs.now lead.from lead.to }
-    requires set_value { lead.set ≡ u16 nb.now (lead.to + 10) }
-    requires rows_long { RowsLong known.now state.now }
-    ensures { result ≡ first_bad (label_at vars nb.now bs.now known.now state.now lead.from lead.to) vars }
-{
-    let mut v = 0;
-    while v < vars {
-        if label_is(vars, nb, bs, known, state, lead, v) {
-            v += 1;
-        } else {
-            return v;
-        }
-    }
-    v
+    folder::all(
+        vars,
+        |v| variable_follows(vars, nb, bs, known, state, lead, v),
+    )
 }
 
 // Which variable breaks B2 where branch record r does not lead to node s; none in particular where it is the concrete label.
@@ -513,8 +417,8 @@ fn apart_by(
     ensures { result ≡ apart_by vars nb.now bs.now known.now state.now r s }
 {
     let lead = lead_of(vars, nb, r, s);
-    if results_are(vars, nb, bs, state, lead) {
-        first_apart(vars, nb, bs, known, state, lead)
+    if folder::all(vars, |v| result_is(vars, nb, bs, state, lead, v)) {
+        folder::first_bad(vars, |v| label_is(vars, nb, bs, known, state, lead, v))
     } else {
         NO_VARIABLE
     }
@@ -562,48 +466,24 @@ fn first_bad_branch(
     let first = edge.first;
     let branches = edge.branches;
     let p = edge.at;
-    let mut b = 0;
-    while b < branches {
+    folder::first_bad(branches, |b| {
         let s = folder::u16_at(eb, p + 2 + 2 * b);
-        if branch_follows(vars, nb, bs, known, state, first + b, s) {
-            b += 1;
-        } else {
-            return b;
-        }
-    }
-    b
+        branch_follows(vars, nb, bs, known, state, first + b, s)
+    })
 }
 
-// B2 of a node: whether it holds; if so, where the next node's edges start; and if not, the second place of its refusal.
+// Where the flags stop a walk over the edges of a node: the edge that does not follow and where it stands, and of its branch
+// that does not the record, with the second place of the refusal.
 #[derive(Clone, Copy)]
-pub struct Followed {
-    pub holds: bool,
-    pub next: usize,
-    pub second: usize,
-}
-
-fn verdict(holds: bool, next: usize, second: usize) -> Followed
-    ensures { (result.holds ≡ holds) × (result.next ≡ next) × (result.second ≡ second) }
-{
-    Followed {
-        holds,
-        next,
-        second,
-    }
-}
-
-// The same as far as the flags tell; where it does not hold, `next` is where the edge stands that does not follow, with its
-// number and the record of its branch.
-#[derive(Clone, Copy)]
-struct Walk {
-    holds: bool,
-    next: usize,
-    second: usize,
+struct Stop {
     edge: usize,
+    at: usize,
     branch: usize,
+    second: usize,
 }
 
-// Each edge of node n from number `from` on, which stands at `at`; those before follow.
+// Each edge of node n from number `from` on, which stands at `at`, follows as far as the flags tell; those before do. Where
+// the next node's edges start.
 fn edges_follow(
     m: &[u8],
     g: &[u8],
@@ -613,16 +493,13 @@ fn edges_follow(
     firsts: &[usize],
     known: &[u8],
     state: &[i64],
-) -> Walk
+) -> Result<usize, Stop>
     requires node_of { NodeOf m.now g.now n }
     requires followed_to { FollowedTo m.now g.now n (flags_of m.now g.now known.now state.now) from at }
     requires firsts_of { FirstsOf m.now firsts.now }
     requires state_settled { StateSettled m.now g.now n state.now }
     requires rows_long { RowsLong known.now state.now }
-    ensures holds_value { result.holds ≡ edges_by (model_of m.now) (simulation_of (model_of m.now) g.now) n (flags_of m.now g.now known.now state.now) }
-    ensures next_value { result.holds ≡ true → result.next ≡ starts_at (model_of m.now) g.now (n + 1) }
-    ensures second_value { result.holds ≡ false → (result.second ≡ second_by (model_of m.now) (simulation_of (model_of m.now) g.now) n (flags_of m.now g.now known.now state.now)) × (result.branch ≡ bad_record_by (model_of m.now) (simulation_of (model_of m.now) g.now) n (flags_of m.now g.now known.now state.now)) }
-    ensures followed_to_2 { result.holds ≡ false → FollowedTo m.now g.now n (flags_of m.now g.now known.now state.now) result.edge result.next }
+    ensures { MatchResult result (λ next. (edges_by (model_of m.now) (simulation_of (model_of m.now) g.now) n (flags_of m.now g.now known.now state.now) ≡ true) × (next ≡ starts_at (model_of m.now) g.now (n + 1))) (λ stop. StoppedAt m.now g.now n (flags_of m.now g.now known.now state.now) stop.edge stop.at stop.branch stop.second) }
 {
     let vars = graph::variable_count(m);
     let cs = folder::body(m, 3);
@@ -631,37 +508,26 @@ fn edges_follow(
     let eb = folder::body(g, 1);
     let edges = node_field(m, g, n, 4);
     let mut p = at;
-    let mut e = from;
-    while e < edges {
+    for e in from..edges {
         let edge = edge_at(cs, eb, firsts, p);
         let b = first_bad_branch(vars, nb, bs, known, state, eb, edge);
         if b < edge.branches {
             let s = folder::u16_at(eb, p + 2 + 2 * b);
             let branch = edge.first + b;
-            let second = apart_by(vars, nb, bs, known, state, branch, s);
-            return Walk {
-                holds: false,
-                next: p,
-                second,
+            return Err(Stop {
                 edge: e,
+                at: p,
                 branch,
-            };
+                second: apart_by(vars, nb, bs, known, state, branch, s),
+            });
         }
         p += 2 + 2 * edge.branches;
-        e += 1;
     }
-    Walk {
-        holds: true,
-        next: p,
-        second: 0,
-        edge: e,
-        branch: 0,
-    }
+    Ok(p)
 }
 
-// The entry that branch record r assigns to variable v, where v is a variable and the entry is not flagged; else a number
-// past all entries.
-fn open_entry(m: &[u8], known: &[u8], r: usize, v: usize) -> usize
+// The entry that branch record r assigns to variable v, where v is a variable and the entry is not flagged.
+fn open_entry(m: &[u8], known: &[u8], r: usize, v: usize) -> Option<usize>
     requires valid { Valid m.now }
     requires r_le_field_limit { r ≤ field_limit }
     ensures { result ≡ open_entry (model_of m.now) known.now r v }
@@ -670,14 +536,14 @@ fn open_entry(m: &[u8], known: &[u8], r: usize, v: usize) -> usize
     if v < vars {
         let e = folder::field(2 + 2 * vars, folder::body(m, 4), r, 1 + v);
         if !known_at(known, e) {
-            return e;
+            return Some(e);
         }
     }
-    MOST_EXPRESSIONS
+    None
 }
 
 // Row 21. A node that is not expanded has no edges. What the flags leave open is asked, one entry after the other, until all
-// edges follow or one does not for good.
+// edges follow or one does not for good. Where the next node's edges start; else the second place of its refusal.
 pub fn b2(
     m: &[u8],
     g: &[u8],
@@ -687,30 +553,30 @@ pub fn b2(
     masks: &[u16],
     state: &[i64],
     known: &mut [u8],
-) -> Followed
+) -> Result<usize, usize>
     requires askable { Askable m.now g.now n masks.now known.old state.now }
     requires at_value { at ≡ starts_at (model_of m.now) g.now n }
     requires firsts_of { FirstsOf m.now firsts.now }
-    ensures { (result.holds ≡ B2 (model_of m.now) (simulation_of (model_of m.now) g.now) n) × (result.holds ≡ true → result.next ≡ starts_at (model_of m.now) g.now (n + 1)) × (result.holds ≡ false → result.second ≡ second21 (model_of m.now) (simulation_of (model_of m.now) g.now) n) }
+    ensures { MatchResult result (λ next. (B2 (model_of m.now) (simulation_of (model_of m.now) g.now) n ≡ true) × (next ≡ starts_at (model_of m.now) g.now (n + 1))) (λ v. (B2 (model_of m.now) (simulation_of (model_of m.now) g.now) n ≡ false) × (v ≡ second21 (model_of m.now) (simulation_of (model_of m.now) g.now) n)) }
 {
     if node_field(m, g, n, 0) != EXPANDED {
-        return verdict(true, at, 0);
+        return Ok(at);
     }
+    // No `for`: how often it asks hangs on what each answer flags.
     let mut edge = 0;
     let mut p = at;
     loop {
-        let walk = edges_follow(m, g, n, edge, p, firsts, known, state);
-        if walk.holds {
-            return verdict(true, walk.next, 0);
-        }
-        let e = open_entry(m, known, walk.branch, walk.second);
-        if e == MOST_EXPRESSIONS {
-            return verdict(false, at, walk.second);
-        }
+        let stop = match edges_follow(m, g, n, edge, p, firsts, known, state) {
+            Ok(next) => return Ok(next),
+            Err(stop) => stop,
+        };
+        let Some(e) = open_entry(m, known, stop.branch, stop.second) else {
+            return Err(stop.second);
+        };
         if !ask(m, g, n, masks, state, e, known) {
-            return verdict(false, at, walk.second);
+            return Err(stop.second);
         }
-        edge = walk.edge;
-        p = walk.next;
+        edge = stop.edge;
+        p = stop.at;
     }
 }

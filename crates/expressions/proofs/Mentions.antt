@@ -12,7 +12,7 @@ use Rattle.expressions.specs.Meaning.{State, value_of, meaning, number_in, truth
 use Rattle.expressions.specs.Reading.{has_bit, reading, read_number, read_truth}
 use Rattle.expressions.specs.Mentions.{union, mentioning, mentions}
 use Rattle.expressions.specs.Right.{IsNumber, IsTruth}
-use Rattle.expressions.specs.declared.Number.{Number}
+use Rattle.expressions.specs.ThreeWay.{Number}
 use Rattle.expressions.specs.declared.NumberForm.{NumberForm}
 use Rattle.expressions.specs.declared.NumberForm.TheVariants.{Constant, Variable, Binary, If, NoNumber}
 use Rattle.expressions.specs.declared.TruthForm.{TruthForm}

@@ -18,22 +18,21 @@ use Rattle.expressions.specs.Entries.{Entries}
 use Rattle.expressions.specs.Reading.{has_bit, known_truth, look_in, read_number, read_truth}
 use Rattle.expressions.specs.Mentions.{mentions, is_free, missing, Lowest}
 use Rattle.expressions.specs.Right.{IsNumber, IsTruth, EntryRight}
-use Rattle.expressions.specs.declared.Number.{Number}
-use Rattle.expressions.specs.declared.Number.TheVariants.{Known, Unknown as Open}
-use Rattle.expressions.specs.declared.Truth.TheVariants.{Unknown}
+use Rattle.expressions.specs.ThreeWay.{Number}
 use Rattle.expressions.proofs.Bits.{no-bit}
 use Rattle.expressions.proofs.Mentions.{Agree, number-reads, truth-reads}
 use Rattle.expressions.proofs.Whole.{whole-number, whole-truth}
+use Rattle.std.specs.Prelude.{None, Some}
 
 module _ (n m t : ℕ) where
   abbrev tracked-or-not-there : ℕ → Bool
   tracked-or-not-there v = not (is_free m t v)
 
   -- No variable of n is in m and not in t.
-  abbrev pub None : Type 0
-  None = (v : ℕ) → v < n → is_free m t v ≡ false
+  abbrev pub NoneFree : Type 0
+  NoneFree = (v : ℕ) → v < n → is_free m t v ≡ false
 
-  lowest : (None → ⊥) → Lowest n m t (missing n m t)
+  lowest : (NoneFree → ⊥) → Lowest n m t (missing n m t)
   unfolding missing
   lowest f = go (dec_lt (first_bad tracked-or-not-there n) n)
     where
@@ -58,36 +57,36 @@ tracked m t v f q = go (has_bit t v) (rw q at f)
     go true e = refl
     go false e = sym e
 
-pub never-known : (b : Bool) → Unknown ≡ known_truth b → ⊥
+pub never-known : (b : Bool) → None ≡ known_truth b → ⊥
 never-known true q = let k : ◌≡◌ {A = ℕ} 0 1 = cc in omega arith
 never-known false q = let k : ◌≡◌ {A = ℕ} 0 1 = cc in omega arith
 
 module _ (x : Entries) (n : ℕ) (right : (e : ℕ) → e < x.count → EntryRight x n e) (t : ℕ) (v : List ℤ) (e : ℕ) where
   -- Where all that entry e mentions is tracked, it reads as in a label that knows the rest too, so that it is known.
-  module _ (none : None n (mentions x e) t) where
+  module _ (none : NoneFree n (mentions x e) t) where
     rest : ℕ → Number
-    rest i = pick (has_bit (mentions x e) i) (look_in t v i) (Known (pos 0))
+    rest i = pick (has_bit (mentions x e) i) (look_in t v i) (Some (pos 0))
 
     rest-agrees : Agree (look_in t v) rest (mentions x e)
     unfolding rest
     rest-agrees = record { on = λ i q. rw q refl }
 
-    rest-told : (i : ℕ) → i < n → (z : ℤ) × (rest i ≡ Known z)
+    rest-told : (i : ℕ) → i < n → (z : ℤ) × (rest i ≡ Some z)
     unfolding rest look_in
     rest-told i l = go (has_bit (mentions x e) i) refl
       where
-        go : (b : Bool) → has_bit (mentions x e) i ≡ b → (z : ℤ) × (pick b (pick (has_bit t i) (Known (get_or v i (pos 0))) Open) (Known (pos 0)) ≡ Known z)
+        go : (b : Bool) → has_bit (mentions x e) i ≡ b → (z : ℤ) × (pick b (pick (has_bit t i) (Some (get_or v i (pos 0))) None) (Some (pos 0)) ≡ Some z)
         go true q = (get_or v i (pos 0), rw (tracked (mentions x e) t i (none i l) q) refl)
         go false q = (pos 0, refl)
 
-    pub number-told : IsNumber x e → (z : ℤ) × (read_number x (look_in t v) e ≡ Known z)
+    pub number-told : IsNumber x e → (z : ℤ) × (read_number x (look_in t v) e ≡ Some z)
     number-told s = let w = whole-number x n right rest rest-told e s in (w.0, number-reads x (look_in t v) rest e rest-agrees ∙ w.1)
 
     pub truth-told : IsTruth x e → (b : Bool) × (read_truth x (look_in t v) e ≡ known_truth b)
     truth-told s = let w = whole-truth x n right rest rest-told e s in (w.0, truth-reads x (look_in t v) rest e rest-agrees ∙ w.1)
 
-  pub number-lacks : IsNumber x e → read_number x (look_in t v) e ≡ Open → Lowest n (mentions x e) t (missing n (mentions x e) t)
+  pub number-lacks : IsNumber x e → read_number x (look_in t v) e ≡ None → Lowest n (mentions x e) t (missing n (mentions x e) t)
   number-lacks s o = lowest n (mentions x e) t (λ f. let k : ◌≡◌ {A = ℕ} 0 1 = cc (number-told f s).1 in omega arith)
 
-  pub truth-lacks : IsTruth x e → read_truth x (look_in t v) e ≡ Unknown → Lowest n (mentions x e) t (missing n (mentions x e) t)
+  pub truth-lacks : IsTruth x e → read_truth x (look_in t v) e ≡ None → Lowest n (mentions x e) t (missing n (mentions x e) t)
   truth-lacks s o = lowest n (mentions x e) t (λ f. let w = truth-told f s in never-known w.0 (sym o ∙ w.1))

@@ -28,14 +28,12 @@ use Rattle.expressions.specs.declared.Arith.{Arith}
 use Rattle.expressions.specs.declared.Relation.{Relation}
 use Rattle.expressions.specs.declared.Join.{Join}
 use Rattle.expressions.specs.declared.Join.TheVariants.{And, Or}
-use Rattle.expressions.specs.declared.Number.{Number}
-use Rattle.expressions.specs.declared.Number.TheVariants.{Known, Unknown as Open}
-use Rattle.expressions.specs.declared.Truth.{Truth}
-use Rattle.expressions.specs.declared.Truth.TheVariants.{True, False, Unknown}
+use Rattle.expressions.specs.ThreeWay.{Number, Truth}
 use Rattle.expressions.proofs.Related.{Related, number-related, truth-related}
 use Rattle.expressions.proofs.Sound.{known_is}
 use Rattle.expressions.proofs.Missing.{never-known}
 use Rattle.expressions.proofs.States.{says-number, says_truth, number-complete, truth-complete, number-stays, truth-stays, said}
+use Rattle.std.specs.Prelude.{None, Some}
 
 -- ---- the same of what is tracked
 
@@ -55,7 +53,7 @@ module _ (x : Entries) (n : ℕ) (bound : ℕ → Range) (t : ℕ) (v w : List �
 
   look-same : look_in t v ≡ look_in t w
   unfolding look_in
-  look-same = λ j i. picks Known Open i j
+  look-same = λ j i. picks Some None i j
 
   combination-same : (m k : ℕ) → combination L m k ≡ combination L' m k
   unfolding combination value_in
@@ -72,24 +70,24 @@ module _ (x : Entries) (n : ℕ) (bound : ℕ → Range) (t : ℕ) (v w : List �
     unfolding number_read number_by_all
     number_same j =
         let at : ℕ → ℤ = λ k. number_in x (combination-same (mentions x e) k j) e in
-        pick few (pick (all (λ k. eq_z (at k) (at 0)) count) (Known (at 0)) Open) (read_number x (look-same j) e)
+        pick few (pick (all (λ k. eq_z (at k) (at 0)) count) (Some (at 0)) None) (read_number x (look-same j) e)
 
     pub truth-same : truth_read x L e ≡ truth_read x L' e
     unfolding truth_read truth_by_all
     truth-same j =
         let at : ℕ → Bool = λ k. truth_in x (combination-same (mentions x e) k j) e in
-        pick few (pick (all (λ k. same_truth (at k) (at 0)) count) (known_truth (at 0)) Unknown) (read_truth x (look-same j) e)
+        pick few (pick (all (λ k. same_truth (at k) (at 0)) count) (known_truth (at 0)) None) (read_truth x (look-same j) e)
 
 -- ---- more is tracked: the three-way reading
 
 -- What is known stays.
 data Grows : Number → Number → Type 0 where
-  known : {z : ℤ} → Grows (Known z) (Known z)
-  open-number : {a : Number} → Grows Open a
+  known : {z : ℤ} → Grows (Some z) (Some z)
+  open-number : {a : Number} → Grows None a
 
 data GrowsT : Truth → Truth → Type 0 where
   known-truth : {a : Truth} → GrowsT a a
-  open-truth : {a : Truth} → GrowsT Unknown a
+  open-truth : {a : Truth} → GrowsT None a
 
 grows-arith : (k : Arith) {a b a' b' : Number} → Grows a a' → Grows b b' → Grows (arith_n k a b) (arith_n k a' b')
 grows-arith k known known = known
@@ -97,8 +95,8 @@ grows-arith k known open-number = open-number
 grows-arith k open-number h = open-number
 
 grows_same : (a : Number) → Grows a a
-grows_same (Known z) = known
-grows_same Open = open-number
+grows_same (Some z) = known
+grows_same None = open-number
 
 grows-choose : {c c' : Truth} {a b a' b' : Number} → GrowsT c c' → Grows a a' → Grows b b' → Grows (choose_n c a b) (choose_n c' a' b')
 grows-choose (known-truth {a = c}) (known {z = m}) (known {z = n}) = grows_same (chosen c m n)
@@ -115,41 +113,41 @@ grows-not : {a a' : Truth} → GrowsT a a' → GrowsT (not_t a) (not_t a')
 grows-not known-truth = known-truth
 grows-not open-truth = open-truth
 
-false-and : (a : Truth) → and_t a False ≡ False
-false-and True = refl
-false-and False = refl
-false-and Unknown = refl
+false-and : (a : Truth) → and_t a (Some false) ≡ (Some false)
+false-and (Some true) = refl
+false-and (Some false) = refl
+false-and None = refl
 
 grows-and : {a b a' b' : Truth} → GrowsT a a' → GrowsT b b' → GrowsT (and_t a b) (and_t a' b')
 grows-and known-truth known-truth = known-truth
-grows-and (known-truth {a = True}) open-truth = open-truth
-grows-and (known-truth {a = False}) open-truth = known-truth
-grows-and (known-truth {a = Unknown}) open-truth = open-truth
-grows-and open-truth (known-truth {a = True}) = open-truth
-grows-and (open-truth {a = a}) (known-truth {a = False}) = rw (false-and a) known-truth
-grows-and open-truth (known-truth {a = Unknown}) = open-truth
+grows-and (known-truth {a = (Some true)}) open-truth = open-truth
+grows-and (known-truth {a = (Some false)}) open-truth = known-truth
+grows-and (known-truth {a = None}) open-truth = open-truth
+grows-and open-truth (known-truth {a = (Some true)}) = open-truth
+grows-and (open-truth {a = a}) (known-truth {a = (Some false)}) = rw (false-and a) known-truth
+grows-and open-truth (known-truth {a = None}) = open-truth
 grows-and open-truth open-truth = open-truth
 
-true-or : (a : Truth) → or_t a True ≡ True
-true-or True = refl
-true-or False = refl
-true-or Unknown = refl
+true-or : (a : Truth) → or_t a (Some true) ≡ (Some true)
+true-or (Some true) = refl
+true-or (Some false) = refl
+true-or None = refl
 
 grows-or : {a b a' b' : Truth} → GrowsT a a' → GrowsT b b' → GrowsT (or_t a b) (or_t a' b')
 grows-or known-truth known-truth = known-truth
-grows-or (known-truth {a = True}) open-truth = known-truth
-grows-or (known-truth {a = False}) open-truth = open-truth
-grows-or (known-truth {a = Unknown}) open-truth = open-truth
-grows-or (open-truth {a = a}) (known-truth {a = True}) = rw (true-or a) known-truth
-grows-or open-truth (known-truth {a = False}) = open-truth
-grows-or open-truth (known-truth {a = Unknown}) = open-truth
+grows-or (known-truth {a = (Some true)}) open-truth = known-truth
+grows-or (known-truth {a = (Some false)}) open-truth = open-truth
+grows-or (known-truth {a = None}) open-truth = open-truth
+grows-or (open-truth {a = a}) (known-truth {a = (Some true)}) = rw (true-or a) known-truth
+grows-or open-truth (known-truth {a = (Some false)}) = open-truth
+grows-or open-truth (known-truth {a = None}) = open-truth
 grows-or open-truth open-truth = open-truth
 
 grows-join : (k : Join) {a b a' b' : Truth} → GrowsT a a' → GrowsT b b' → GrowsT (join_t k a b) (join_t k a' b')
 grows-join And h l = grows-and h l
 grows-join Or h l = grows-or h l
 
-still-number : {a b : Number} (z : ℤ) → Grows a b → a ≡ Known z → b ≡ Known z
+still-number : {a b : Number} (z : ℤ) → Grows a b → a ≡ Some z → b ≡ Some z
 still-number z known e = e
 still-number z open-number e = absurd (let k : ◌≡◌ {A = ℕ} 0 1 = cc in omega arith)
 
@@ -183,7 +181,7 @@ module _ (x : Entries) (n : ℕ) (bound : ℕ → Range) (t u : ℕ) (s : List �
   unfolding look_in
   look-grows i = go (has_bit t i) refl
     where
-      go : (b : Bool) → has_bit t i ≡ b → Grows (pick b (Known (get_or s i (pos 0))) Open) (pick (has_bit u i) (Known (get_or s i (pos 0))) Open)
+      go : (b : Bool) → has_bit t i ≡ b → Grows (pick b (Some (get_or s i (pos 0))) None) (pick (has_bit u i) (Some (get_or s i (pos 0))) None)
       go true e = rw (more i e) known
       go false e = open-number
 
@@ -205,7 +203,7 @@ module _ (x : Entries) (n : ℕ) (bound : ℕ → Range) (t u : ℕ) (s : List �
   holds-fewer r h = record { long = h.long; low = h.low; high = h.high; agrees = λ v l b. h.agrees v l (more v b) }
 
   module _ (e : ℕ) where
-    number-three : (z : ℤ) → number_three x T e ≡ Known z → number_three x U e ≡ Known z
+    number-three : (z : ℤ) → number_three x T e ≡ Some z → number_three x U e ≡ Some z
     unfolding read_number
     number-three z h = still-number z (number-related (reading (look_in t s)) (reading (look_in u s)) Grows GrowsT grows x (suc e) e) h
 
@@ -235,10 +233,10 @@ module _ (x : Entries) (n : ℕ) (bound : ℕ → Range) (t u : ℕ) (s : List �
     fewer-ways = fewer-product (choices bound u (mentions x e)) (choices bound t (mentions x e)) fewer-choices n
 
     module _ (P : Proper T) (Q : Proper U) where
-      pub number-grows : (z : ℤ) → number_read x T e ≡ Known z → number_read x U e ≡ Known z
+      pub number-grows : (z : ℤ) → number_read x T e ≡ Some z → number_read x U e ≡ Some z
       number-grows z h = go (dec_le (ways x U e) most_combinations)
         where
-          go : Dec (ways x U e ≤ most_combinations) → number_read x U e ≡ Known z
+          go : Dec (ways x U e ≤ most_combinations) → number_read x U e ≡ Some z
           go (yes l) = (number-complete x U Q e l z).1 (λ r k. known_is z (says-number x T P e r (holds-fewer r k)) h)
           go (no d) = number-stays x U Q e z (number-three z (sym (number-many x T e (omega (arith, fewer-ways))) ∙ h))
 

@@ -13,19 +13,17 @@ use Rattle.expressions.specs.Reading.{arith_n, choose_n, reading}
 use Rattle.expressions.specs.Ranges.{arith_r, hull, ranging, range_of, limits}
 use Rattle.expressions.specs.Right.{Inside}
 use Rattle.expressions.specs.declared.Arith.{Arith}
-use Rattle.expressions.specs.declared.Number.{Number}
-use Rattle.expressions.specs.declared.Number.TheVariants.{Known, Unknown as Open}
-use Rattle.expressions.specs.declared.Truth.{Truth}
-use Rattle.expressions.specs.declared.Truth.TheVariants.{True, False, Unknown}
+use Rattle.expressions.specs.ThreeWay.{Number, Truth}
 use Rattle.expressions.specs.declared.Range.{Range}
 use Rattle.whole.proofs.Order.{to-⊑, within}
 use Rattle.expressions.proofs.Related.{Any, any, Related, number_step_lem}
 use Rattle.expressions.proofs.Interval.{In, in-inside, in-arith, in-hull, in_one}
 use Rattle.expressions.specs.Parts.{Lower}
+use Rattle.std.specs.Prelude.{None, Some}
 
 pub data InN : Range → Number → Type 0 where
-  known_in : {r : Range} {z : ℤ} → In r z → InN r (Known z)
-  open_in : {r : Range} → InN r Open
+  known_in : {r : Range} {z : ℤ} → In r z → InN r (Some z)
+  open_in : {r : Range} → InN r None
 
 known-arith : (k : Arith) {r q : Range} {a b : Number} → InN r a → InN q b → InN (arith_r k r q) (arith_n k a b)
 known-arith k (known_in h) (known_in l) = known_in (in-arith k h l)
@@ -33,9 +31,9 @@ known-arith k (known_in h) open_in = open_in
 known-arith k open_in l = open_in
 
 known-hull : (t : Truth) {r q : Range} {a b : Number} → InN r a → InN q b → InN (hull r q) (choose_n t a b)
-known-hull True (known_in h) (known_in l) = known_in (in-hull true h l)
-known-hull False (known_in h) (known_in l) = known_in (in-hull false h l)
-known-hull Unknown (known_in h) (known_in l) = open_in
+known-hull (Some true) (known_in h) (known_in l) = known_in (in-hull true h l)
+known-hull (Some false) (known_in h) (known_in l) = known_in (in-hull false h l)
+known-hull None (known_in h) (known_in l) = open_in
 known-hull t (known_in h) open_in = open_in
 known-hull t open_in l = open_in
 

@@ -13,21 +13,19 @@ use Rattle.expressions.specs.declared.Arith.{Arith}
 use Rattle.expressions.specs.declared.Relation.{Relation}
 use Rattle.expressions.specs.declared.Join.{Join}
 use Rattle.expressions.specs.declared.Join.TheVariants.{And, Or}
-use Rattle.expressions.specs.declared.Number.{Number}
-use Rattle.expressions.specs.declared.Number.TheVariants.{Known, Unknown as Open}
-use Rattle.expressions.specs.declared.Truth.{Truth}
-use Rattle.expressions.specs.declared.Truth.TheVariants.{True, False, Unknown}
+use Rattle.expressions.specs.ThreeWay.{Number, Truth}
 use Rattle.expressions.proofs.Related.{Related, number-related, truth-related}
+use Rattle.std.specs.Prelude.{None, Some}
 
 -- What a reading says of a number, and of a truth: nothing, or that it is the known one.
 pub data Says : Number → ℤ → Type 0 where
-  known : {z : ℤ} → Says (Known z) z
-  open-number : {z : ℤ} → Says Open z
+  known : {z : ℤ} → Says (Some z) z
+  open-number : {z : ℤ} → Says None z
 
 pub data SaysT : Truth → Bool → Type 0 where
-  known-true : SaysT True true
-  known-false : SaysT False false
-  open-truth : {b : Bool} → SaysT Unknown b
+  known-true : SaysT (Some true) true
+  known-false : SaysT (Some false) false
+  open-truth : {b : Bool} → SaysT None b
 
 -- ---- each operation
 
@@ -104,21 +102,21 @@ module _ (x : Entries) (look : ℕ → Number) (s : State) (agrees : (i : ℕ) �
 
 -- ---- what is said, where it is known
 
-pub known_is : {a : Number} {w : ℤ} (z : ℤ) → Says a w → a ≡ Known z → w ≡ z
+pub known_is : {a : Number} {w : ℤ} (z : ℤ) → Says a w → a ≡ Some z → w ≡ z
 known_is z known e = cc
 known_is z open-number e = cc
 
-pub true-is : {a : Truth} {b : Bool} → SaysT a b → a ≡ True → b ≡ true
+pub true-is : {a : Truth} {b : Bool} → SaysT a b → a ≡ (Some true) → b ≡ true
 true-is known-true e = refl
 true-is known-false e = cc
 true-is open-truth e = cc
 
-pub false-is : {a : Truth} {b : Bool} → SaysT a b → a ≡ False → b ≡ false
+pub false-is : {a : Truth} {b : Bool} → SaysT a b → a ≡ (Some false) → b ≡ false
 false-is known-true e = cc
 false-is known-false e = refl
 false-is open-truth e = cc
 
-pub is_true_lem : {a : Truth} {b : Bool} → SaysT a b → (a ≡ Unknown → ⊥) → is_true a ≡ b
+pub is_true_lem : {a : Truth} {b : Bool} → SaysT a b → (a ≡ None → ⊥) → is_true a ≡ b
 is_true_lem known-true h = refl
 is_true_lem known-false h = refl
 is_true_lem open-truth h = absurd (h refl)

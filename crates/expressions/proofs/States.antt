@@ -18,18 +18,16 @@ use Rattle.expressions.specs.Entries.{Entries}
 use Rattle.expressions.specs.Limits.{most_combinations}
 use Rattle.expressions.specs.Meaning.{State, value_of, number_in, truth_in}
 use Rattle.expressions.specs.Reading.{has_bit, known_truth, look_in, read_number, read_truth}
-use Rattle.expressions.specs.declared.Number.{Number}
-use Rattle.expressions.specs.declared.Number.TheVariants.{Known, Unknown as Open}
-use Rattle.expressions.specs.declared.Truth.{Truth}
-use Rattle.expressions.specs.declared.Truth.TheVariants.{True, False, Unknown}
+use Rattle.expressions.specs.ThreeWay.{Number, Truth}
 use Rattle.expressions.proofs.Sound.{Says, SaysT, number-sound, truth-sound, known_is, true-is, false-is}
 use Rattle.expressions.specs.Mentions.{mentions, Lowest}
 use Rattle.expressions.specs.Right.{IsNumber, IsTruth, EntryRight}
 use Rattle.expressions.specs.Combinations.{Label, Holds, Proper, combinations, combination}
 use Rattle.expressions.specs.States.{same_truth, ways, number_by_all, truth_by_all, number_three, truth_three, number_read, truth_read, lacked_by}
 use Rattle.expressions.proofs.Mentions.{Agree, number-depends, truth-depends}
-use Rattle.expressions.proofs.Missing.{never-known, None, number-told, truth-told, number-lacks, truth-lacks}
+use Rattle.expressions.proofs.Missing.{never-known, NoneFree, number-told, truth-told, number-lacks, truth-lacks}
 use Rattle.expressions.proofs.Combinations.{combination-holds, place_of, place-below, place-agrees}
+use Rattle.std.specs.Prelude.{None, Some}
 
 -- Two truths are the same.
 pub same_truth_lem : (a b : Bool) → Decides (a ≡ b) (same_truth a b)
@@ -39,7 +37,7 @@ same_truth_lem false true = record { yes = λ e. e; no = λ e. e }
 same_truth_lem false false = record { yes = λ e. refl; no = λ e. refl }
 
 -- What reads Known z, where a test decides whether it is known.
-picked : (b : Bool) (a z : ℤ) → pick b (Known a) Open ≡ Known z → (b ≡ true) × (a ≡ z)
+picked : (b : Bool) (a z : ℤ) → pick b (Some a) None ≡ Some z → (b ≡ true) × (a ≡ z)
 picked true a z e = (refl, cc)
 picked false a z e = absurd (let k : ◌≡◌ {A = ℕ} 0 1 = cc in omega arith)
 
@@ -54,7 +52,7 @@ known_same true false e = absurd (let k : ◌≡◌ {A = ℕ} 0 1 = cc in omega 
 known_same false true e = absurd (let k : ◌≡◌ {A = ℕ} 0 1 = cc in omega arith)
 known_same false false e = refl
 
-picked-truth : (t a b : Bool) → pick t (known_truth a) Unknown ≡ known_truth b → (t ≡ true) × (a ≡ b)
+picked-truth : (t a b : Bool) → pick t (known_truth a) None ≡ known_truth b → (t ≡ true) × (a ≡ b)
 picked-truth true a b e = (refl, known_same a b e)
 picked-truth false a b e = absurd (never-known b e)
 
@@ -97,21 +95,21 @@ module _ (x : Entries) (L : Label) (P : Proper L) (e : ℕ) where
   abbrev truth : State → Bool
   truth s = truth_in x s e
 
-  pub number-known : (z : ℤ) → number_by_all x L e ≡ Known z → (s : State) → Holds L s → number_in x s e ≡ z
+  pub number-known : (z : ℤ) → number_by_all x L e ≡ Some z → (s : State) → Holds L s → number_in x s e ≡ z
   unfolding number_by_all
-  number-known = known-all eq_z equal-decided L P m number (λ s s' h. number-depends x s s' e h) Known Open picked
+  number-known = known-all eq_z equal-decided L P m number (λ s s' h. number-depends x s s' e h) Some None picked
 
-  pub known-number : (z : ℤ) → ((s : State) → Holds L s → number_in x s e ≡ z) → number_by_all x L e ≡ Known z
+  pub known-number : (z : ℤ) → ((s : State) → Holds L s → number_in x s e ≡ z) → number_by_all x L e ≡ Some z
   unfolding number_by_all
-  known-number = all_known eq_z equal-decided L P m number (λ s s' h. number-depends x s s' e h) Known Open picked
+  known-number = all_known eq_z equal-decided L P m number (λ s s' h. number-depends x s s' e h) Some None picked
 
   pub truth-known : (b : Bool) → truth_by_all x L e ≡ known_truth b → (s : State) → Holds L s → truth_in x s e ≡ b
   unfolding truth_by_all
-  truth-known = known-all same_truth same_truth_lem L P m truth (λ s s' h. truth-depends x s s' e h) known_truth Unknown picked-truth
+  truth-known = known-all same_truth same_truth_lem L P m truth (λ s s' h. truth-depends x s s' e h) known_truth None picked-truth
 
   pub known-truth : (b : Bool) → ((s : State) → Holds L s → truth_in x s e ≡ b) → truth_by_all x L e ≡ known_truth b
   unfolding truth_by_all
-  known-truth = all_known same_truth same_truth_lem L P m truth (λ s s' h. truth-depends x s s' e h) known_truth Unknown picked-truth
+  known-truth = all_known same_truth same_truth_lem L P m truth (λ s s' h. truth-depends x s s' e h) known_truth None picked-truth
 
   -- ---- document 01's reading
   abbrev look : ℕ → Number
@@ -121,11 +119,11 @@ module _ (x : Entries) (L : Label) (P : Proper L) (e : ℕ) where
   unfolding look_in
   look-says s h i = go (has_bit L.tracked i) refl
     where
-      go : (b : Bool) → has_bit L.tracked i ≡ b → Says (pick b (Known (get_or L.values i (pos 0))) Open) (value_of s i)
-      go true t = subst (λ (z : ℤ). Says (Known (get_or L.values i (pos 0))) z) (sym (h.agrees i (P.there i t) t)) Says.known
+      go : (b : Bool) → has_bit L.tracked i ≡ b → Says (pick b (Some (get_or L.values i (pos 0))) None) (value_of s i)
+      go true t = subst (λ (z : ℤ). Says (Some (get_or L.values i (pos 0))) z) (sym (h.agrees i (P.there i t) t)) Says.known
       go false t = Says.open-number
 
-  pub three-way-number : (z : ℤ) → read_number x look e ≡ Known z → number_by_all x L e ≡ Known z
+  pub three-way-number : (z : ℤ) → read_number x look e ≡ Some z → number_by_all x L e ≡ Some z
   three-way-number z k = known-number z (λ s h. known_is z (number-sound x look s (look-says s h) e) k)
 
   pub three-way-truth : (b : Bool) → read_truth x look e ≡ known_truth b → truth_by_all x L e ≡ known_truth b
@@ -133,13 +131,13 @@ module _ (x : Entries) (L : Label) (P : Proper L) (e : ℕ) where
 
   -- ---- the reading of 2.4 says nothing, or what is so in every state of the label
   says_all : (s : State) → Holds L s → (a : Number) → number_by_all x L e ≡ a → Says a (number_in x s e)
-  says_all s h (Known z) q = rw (number-known z q s h) Says.known
-  says_all s h Open q = Says.open-number
+  says_all s h (Some z) q = rw (number-known z q s h) Says.known
+  says_all s h None q = Says.open-number
 
   says-all-truth : (s : State) → Holds L s → (a : Truth) → truth_by_all x L e ≡ a → SaysT a (truth_in x s e)
-  says-all-truth s h True q = rw (truth-known true q s h) SaysT.known-true
-  says-all-truth s h False q = rw (truth-known false q s h) SaysT.known-false
-  says-all-truth s h Unknown q = SaysT.open-truth
+  says-all-truth s h (Some true) q = rw (truth-known true q s h) SaysT.known-true
+  says-all-truth s h (Some false) q = rw (truth-known false q s h) SaysT.known-false
+  says-all-truth s h None q = SaysT.open-truth
 
   pub says-number : (s : State) → Holds L s → Says (number_read x L e) (number_in x s e)
   unfolding number_read
@@ -167,18 +165,18 @@ module _ (x : Entries) (L : Label) (P : Proper L) (e : ℕ) where
     unfolding truth_read
     truth-few = rw (le-leb (ways x L e) most_combinations few) refl
 
-    pub number-complete : (z : ℤ) → (number_read x L e ≡ Known z → (s : State) → Holds L s → number_in x s e ≡ z) × (((s : State) → Holds L s → number_in x s e ≡ z) → number_read x L e ≡ Known z)
+    pub number-complete : (z : ℤ) → (number_read x L e ≡ Some z → (s : State) → Holds L s → number_in x s e ≡ z) × (((s : State) → Holds L s → number_in x s e ≡ z) → number_read x L e ≡ Some z)
     number-complete z = (λ k. number-known z (sym number-few ∙ k), λ f. number-few ∙ known-number z f)
 
     pub truth-complete : (b : Bool) → (truth_read x L e ≡ known_truth b → (s : State) → Holds L s → truth_in x s e ≡ b) × (((s : State) → Holds L s → truth_in x s e ≡ b) → truth_read x L e ≡ known_truth b)
     truth-complete b = (λ k. truth-known b (sym truth-few ∙ k), λ f. truth-few ∙ known-truth b f)
 
   -- ---- document 01's reading, where it is known, stays
-  pub number-stays : (z : ℤ) → number_three x L e ≡ Known z → number_read x L e ≡ Known z
+  pub number-stays : (z : ℤ) → number_three x L e ≡ Some z → number_read x L e ≡ Some z
   unfolding number_read
   number-stays z h = go (leb (ways x L e) most_combinations)
     where
-      go : (b : Bool) → pick b (number_by_all x L e) (number_three x L e) ≡ Known z
+      go : (b : Bool) → pick b (number_by_all x L e) (number_three x L e) ≡ Some z
       go true = three-way-number z h
       go false = h
 
@@ -190,31 +188,31 @@ module _ (x : Entries) (L : Label) (P : Proper L) (e : ℕ) where
       go true = three-way-truth a h
       go false = h
 
-  pub number-opens : number_read x L e ≡ Open → number_three x L e ≡ Open
+  pub number-opens : number_read x L e ≡ None → number_three x L e ≡ None
   number-opens o = go (number_three x L e) refl
     where
-      go : (a : Number) → number_three x L e ≡ a → a ≡ Open
-      go (Known z) q = let k : ◌≡◌ {A = ℕ} 0 1 = cc (number-stays z q) in absurd (omega arith)
-      go Open q = refl
+      go : (a : Number) → number_three x L e ≡ a → a ≡ None
+      go (Some z) q = let k : ◌≡◌ {A = ℕ} 0 1 = cc (number-stays z q) in absurd (omega arith)
+      go None q = refl
 
-  pub truth-opens : truth_read x L e ≡ Unknown → truth_three x L e ≡ Unknown
+  pub truth-opens : truth_read x L e ≡ None → truth_three x L e ≡ None
   truth-opens o = go (truth_three x L e) refl
     where
-      go : (a : Truth) → truth_three x L e ≡ a → a ≡ Unknown
-      go True q = absurd (never-known true (sym o ∙ truth-stays true q))
-      go False q = absurd (never-known false (sym o ∙ truth-stays false q))
-      go Unknown q = refl
+      go : (a : Truth) → truth_three x L e ≡ a → a ≡ None
+      go (Some true) q = absurd (never-known true (sym o ∙ truth-stays true q))
+      go (Some false) q = absurd (never-known false (sym o ∙ truth-stays false q))
+      go None q = refl
 
   -- ---- where all that it mentions is tracked it is known; so where it is unknown, a variable is missing
   module _ (right : (i : ℕ) → i < x.count → EntryRight x L.variables i) where
-    pub number-tracked : IsNumber x e → None L.variables (mentions x e) L.tracked → (z : ℤ) × (number_read x L e ≡ Known z)
+    pub number-tracked : IsNumber x e → NoneFree L.variables (mentions x e) L.tracked → (z : ℤ) × (number_read x L e ≡ Some z)
     number-tracked i none = let w = number-told x L.variables right L.tracked L.values e none i in (w.0, number-stays w.0 w.1)
 
-    pub truth-tracked : IsTruth x e → None L.variables (mentions x e) L.tracked → (b : Bool) × (truth_read x L e ≡ known_truth b)
+    pub truth-tracked : IsTruth x e → NoneFree L.variables (mentions x e) L.tracked → (b : Bool) × (truth_read x L e ≡ known_truth b)
     truth-tracked i none = let w = truth-told x L.variables right L.tracked L.values e none i in (w.0, truth-stays w.0 w.1)
 
-    pub number-misses : IsNumber x e → number_read x L e ≡ Open → Lowest L.variables (mentions x e) L.tracked (lacked_by x L e)
+    pub number-misses : IsNumber x e → number_read x L e ≡ None → Lowest L.variables (mentions x e) L.tracked (lacked_by x L e)
     number-misses i o = number-lacks x L.variables right L.tracked L.values e i (number-opens o)
 
-    pub truth-misses : IsTruth x e → truth_read x L e ≡ Unknown → Lowest L.variables (mentions x e) L.tracked (lacked_by x L e)
+    pub truth-misses : IsTruth x e → truth_read x L e ≡ None → Lowest L.variables (mentions x e) L.tracked (lacked_by x L e)
     truth-misses i o = truth-lacks x L.variables right L.tracked L.values e i (truth-opens o)

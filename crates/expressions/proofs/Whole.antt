@@ -15,23 +15,22 @@ use Rattle.expressions.specs.Reading.{known_truth, chosen, not_t, join_t, readin
 use Rattle.expressions.specs.Right.{IsNumber, IsTruth, NumberPart, TruthPart, NumberRight, TruthRight, EntryRight}
 use Rattle.expressions.specs.declared.Join.{Join}
 use Rattle.expressions.specs.declared.Join.TheVariants.{And, Or}
-use Rattle.expressions.specs.declared.Number.{Number}
-use Rattle.expressions.specs.declared.Number.TheVariants.{Known}
-use Rattle.expressions.specs.declared.Truth.{Truth}
+use Rattle.expressions.specs.ThreeWay.{Number, Truth}
 use Rattle.expressions.specs.declared.NumberForm.{NumberForm}
 use Rattle.expressions.specs.declared.NumberForm.TheVariants.{Constant, Variable, Binary, If, NoNumber}
 use Rattle.expressions.specs.declared.TruthForm.{TruthForm}
 use Rattle.expressions.specs.declared.TruthForm.TheVariants.{Compare, Not, Joined, Always, NoTruth}
 use Rattle.expressions.proofs.Forms.{number-right, truth-right}
+use Rattle.std.specs.Prelude.{Some}
 
 abbrev KnownN : Number → Type 0
-KnownN a = (z : ℤ) × (a ≡ Known z)
+KnownN a = (z : ℤ) × (a ≡ Some z)
 
 abbrev KnownT : Truth → Type 0
 KnownT t = (b : Bool) × (t ≡ known_truth b)
 
 -- Operations on known truths.
-chosen-known : (t : Bool) (a b : ℤ) → chosen (known_truth t) a b ≡ Known (pick t a b)
+chosen-known : (t : Bool) (a b : ℤ) → chosen (known_truth t) a b ≡ Some (pick t a b)
 chosen-known true a b = refl
 chosen-known false a b = refl
 
@@ -45,7 +44,7 @@ join-known And false u = refl
 join-known Or true u = refl
 join-known Or false u = refl
 
-module _ (x : Entries) (variables : ℕ) (right : (e : ℕ) → e < x.count → EntryRight x variables e) (look : ℕ → Number) (told : (i : ℕ) → i < variables → (z : ℤ) × (look i ≡ Known z)) where
+module _ (x : Entries) (variables : ℕ) (right : (e : ℕ) → e < x.count → EntryRight x variables e) (look : ℕ → Number) (told : (i : ℕ) → i < variables → (z : ℤ) × (look i ≡ Some z)) where
   -- One level.
   module _ (e : ℕ) (num : ℕ → Number) (tru : ℕ → Truth) (kn : (p : ℕ) → NumberPart x e p → KnownN (num p)) (kt : (p : ℕ) → TruthPart x e p → KnownT (tru p)) where
     number-known : (f : NumberForm) → NumberRight x variables e f → KnownN (number_step (reading look) num tru f)
@@ -88,7 +87,7 @@ module _ (x : Entries) (variables : ℕ) (right : (e : ℕ) → e < x.count → 
     truth-at (suc n) e l s =
         truth-known e _ _ (λ p h. number-at n p (omega arith) h.1) (λ p h. truth-at n p (omega arith) h.1) (truth_form x e) (truth-right x e variables (right e s.there).form s)
 
-  pub whole-number : (e : ℕ) → IsNumber x e → (z : ℤ) × (read_number x look e ≡ Known z)
+  pub whole-number : (e : ℕ) → IsNumber x e → (z : ℤ) × (read_number x look e ≡ Some z)
   unfolding read_number
   whole-number e s = number-at (suc e) e (omega arith) s
 

@@ -1,4 +1,5 @@
 pub mod Limits
+pub mod ThreeWay
 pub mod Entries
 pub mod Parts
 pub mod Small

@@ -1,22 +1,16 @@
 -- Document 02, 2.2: the variables that an expression mentions; and readings that, where they are unknown, carry the lowest
 -- of those that the label does not track.
 -- Assumes nothing.
-use Rattle.std.specs.Prelude.{ℕ, ◌^◌, ◌<◌, ◌≡◌, Bool, true, false, not, ◌&&◌, List, ltb, ℤ}
+use Rattle.std.specs.Prelude.{ℕ, ◌^◌, ◌<◌, ◌≡◌, Bool, true, false, not, ◌&&◌, List, ltb, ℤ, Err, Ok, ok_or}
 use Rattle.std.specs.Int.Bits.{bit_or}
+use Rattle.std.specs.Result.{result_ok}
 use Rattle.folder.specs.Pick.{pick}
 use Rattle.folder.specs.Scan.{first_bad}
 use Rattle.expressions.specs.Limits.{no_variable}
 use Rattle.expressions.specs.Entries.{Entries}
 use Rattle.expressions.specs.Levels.{Interpretation, number, truth}
 use Rattle.expressions.specs.Reading.{has_bit, look_in, read_number, read_truth}
-use Rattle.expressions.specs.declared.Number.{Number}
-use Rattle.expressions.specs.declared.Number.TheVariants as N
-use Rattle.expressions.specs.declared.Truth.{Truth}
-use Rattle.expressions.specs.declared.Truth.TheVariants as T
-use Rattle.expressions.specs.declared.NumberReading.{NumberReading}
-use Rattle.expressions.specs.declared.NumberReading.TheVariants as NR
-use Rattle.expressions.specs.declared.TruthReading.{TruthReading}
-use Rattle.expressions.specs.declared.TruthReading.TheVariants as TR
+use Rattle.expressions.specs.ThreeWay.{Number, Truth, NumberReading, TruthReading}
 
 -- Sets of variables have bit i for variable i, as a node's tracked set. What is in either of two.
 unfoldable pub union : ℕ → ℕ → ℕ
@@ -58,27 +52,20 @@ pub record Lowest (n m t r : ℕ) : Type 0 where
 
 -- A three-way reading and the variable that it lacks if it is unknown; the reading alone; and the variable alone.
 abbrev pub carry_n : ℕ → Number → NumberReading
-carry_n v (N.Known z) = NR.Known z
-carry_n v N.Unknown = NR.Lacks v
+carry_n v a = ok_or a v
 
 abbrev pub carry_t : ℕ → Truth → TruthReading
-carry_t v T.True = TR.True
-carry_t v T.False = TR.False
-carry_t v T.Unknown = TR.Lacks v
+carry_t v a = ok_or a v
 
 abbrev pub plain_n : NumberReading → Number
-plain_n (NR.Known z) = N.Known z
-plain_n (NR.Lacks v) = N.Unknown
+plain_n r = result_ok r
 
 abbrev pub plain_t : TruthReading → Truth
-plain_t TR.True = T.True
-plain_t TR.False = T.False
-plain_t (TR.Lacks v) = T.Unknown
+plain_t r = result_ok r
 
 abbrev pub lacked : TruthReading → ℕ
-lacked TR.True = no_variable
-lacked TR.False = no_variable
-lacked (TR.Lacks v) = v
+lacked (Ok b) = no_variable
+lacked (Err v) = v
 
 -- How entry e reads in the label with the set t and the values v, of n variables.
 module _ (x : Entries) (n t : ℕ) (v : List ℤ) where

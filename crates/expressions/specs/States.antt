@@ -1,7 +1,7 @@
 -- Document 02, 2.4: the reading of an entry in a label. Where the untracked variables that it mentions have at most 4,096
 -- combinations, it is known exactly when all combinations agree on it; above that, document 01's reading remains.
 -- Assumes nothing.
-use Rattle.std.specs.Prelude.{ℕ, Bool, not, leb, ℤ}
+use Rattle.std.specs.Prelude.{ℕ, Bool, not, leb, ℤ, None, Some}
 use Rattle.folder.specs.Pick.{pick}
 use Rattle.folder.specs.Scan.{all}
 use Rattle.whole.specs.Order.{eq_z}
@@ -11,12 +11,7 @@ use Rattle.expressions.specs.Meaning.{number_in, truth_in}
 use Rattle.expressions.specs.Reading.{known_truth, look_in, read_number, read_truth}
 use Rattle.expressions.specs.Mentions.{mentions, missing, carry_n, carry_t}
 use Rattle.expressions.specs.Combinations.{Label, combinations, combination}
-use Rattle.expressions.specs.declared.Number.{Number}
-use Rattle.expressions.specs.declared.Number.TheVariants.{Known, Unknown as Open}
-use Rattle.expressions.specs.declared.Truth.{Truth}
-use Rattle.expressions.specs.declared.Truth.TheVariants.{Unknown}
-use Rattle.expressions.specs.declared.NumberReading.{NumberReading}
-use Rattle.expressions.specs.declared.TruthReading.{TruthReading}
+use Rattle.expressions.specs.ThreeWay.{Number, Truth, NumberReading, TruthReading}
 
 abbrev pub same_truth : Bool → Bool → Bool
 same_truth a b = pick a b (not b)
@@ -35,10 +30,10 @@ module _ (x : Entries) (L : Label) (e : ℕ) where
 
   -- Known where all combinations agree, that is each with the first.
   unfoldable pub number_by_all : Number
-  number_by_all = pick (all (λ j. eq_z (number_by j) (number_by 0)) ways) (Known (number_by 0)) Open
+  number_by_all = pick (all (λ j. eq_z (number_by j) (number_by 0)) ways) (Some (number_by 0)) None
 
   unfoldable pub truth_by_all : Truth
-  truth_by_all = pick (all (λ j. same_truth (truth_by j) (truth_by 0)) ways) (known_truth (truth_by 0)) Unknown
+  truth_by_all = pick (all (λ j. same_truth (truth_by j) (truth_by 0)) ways) (known_truth (truth_by 0)) None
 
   -- Document 01's reading.
   abbrev pub number_three : Number

@@ -50,7 +50,8 @@ pub enum Join {
     Or,
 }
 
-// An entry as a number, its parts by their entry numbers. `If` has its truth first.
+// An entry as a number, its parts by their entry numbers. `If` has its truth first. `NoNumber` and not an Option around the
+// form: each match has the same arms either way.
 #[derive(Clone, Copy)]
 pub enum NumberForm {
     Constant(i64),
@@ -60,7 +61,7 @@ pub enum NumberForm {
     NoNumber,
 }
 
-// An entry as a truth.
+// An entry as a truth, and `NoTruth` for the same reason.
 #[derive(Clone, Copy)]
 pub enum TruthForm {
     Compare(Relation, usize, usize),
@@ -68,34 +69,6 @@ pub enum TruthForm {
     Joined(Join, usize, usize),
     Always,
     NoTruth,
-}
-
-// The three-way reading of a number and of a truth in a label.
-#[derive(Clone, Copy)]
-pub enum Number {
-    Known(i64),
-    Unknown,
-}
-
-#[derive(Clone, Copy)]
-pub enum Truth {
-    True,
-    False,
-    Unknown,
-}
-
-// The same, and where it is unknown the lowest variable that the label would have to track besides (document 02, 2.2).
-#[derive(Clone, Copy)]
-pub enum NumberReading {
-    Known(i64),
-    Lacks(usize),
-}
-
-#[derive(Clone, Copy)]
-pub enum TruthReading {
-    True,
-    False,
-    Lacks(usize),
 }
 
 #[derive(Clone, Copy)]

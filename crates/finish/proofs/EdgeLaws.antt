@@ -101,8 +101,6 @@ module _ {cs : List ℕ} {row : List ℤ} {child at c births bytes count : ℕ} 
         (λ i. w.counted i + (z-is ∙ ap (λ (t : Bool). pick t 1 0) o) i) ∙ count-more (on_in cs row c) (passing c (on_in cs row)) c ∙ ap length (sym (passing-more (on_in cs row) c (on_in cs row c) refl));
   }
 
-pub walk-over : {cs : List ℕ} {row : List ℤ} {child at c births bytes count commands : ℕ} {old new : List ℕ} → Walked cs row child at c births bytes count old new → c ≤ commands → commands ≤ c
+pub walk-over : {cs : List ℕ} {row : List ℤ} {child at c births bytes count commands : ℕ} {old new : List ℕ} → Walked cs row child at c births bytes count old new → c ≡ commands
     → EdgesLaid cs row child at commands count old new
-walk-over {cs} {row} {child} {at} {c} {births} {bytes} {count} {commands} {old} {new} w l h =
-    let e : c ≡ commands = omega arith in
-    subst (λ (k : ℕ). EdgesLaid cs row child at k count old new) e (record { laid = w.laid; counted = w.counted })
+walk-over {cs} {row} {child} {at} {count = count} {old = old} {new = new} w e = subst (λ (k : ℕ). EdgesLaid cs row child at k count old new) e (record { laid = w.laid; counted = w.counted })

@@ -1,7 +1,7 @@
 -- A node's final record: its fields as the code works them out, and that they are the same while it is written.
 -- Assumes nothing.
 use Prim.Native.Nat.{ℕ, zero, suc, ◌+◌, ◌-◌, ◌*◌, ◌<◌, ◌≤◌}
-use mathlib.Core.Path.{◌≡◌, refl, sym, ap, ◌∙◌, subst}
+use mathlib.Core.Path.{◌≡◌, refl, sym, ap, ◌∙◌}
 use mathlib.Core.Bool.{Bool, true, false}
 use mathlib.Core.List.{List}
 use native.Mathlib.Decide.{dec_lt}
@@ -84,17 +84,17 @@ module _ (vars : ℕ) (nb : List ℕ) (n : ℕ) where
     field-later {f} l e = e ∙ sym (later-is f l)
 
     module _ {size : ℕ} (z : size ≡ node_size vars) where
-      pub field-kind : {f r u : ℕ} → f ≡ kind_field → u ≡ field size nb n f → r ≡ kind_number (kind_of u) → r ≡ final_field vars nb n edges f
+      pub field-kind : {f r u : ℕ} → f ≡ kind_field → u ≡ field size nb n kind_field → r ≡ kind_number (kind_of u) → r ≡ final_field vars nb n edges f
       unfolding final_field
-      field-kind {f} q p e = rw q (e ∙ ap (λ (x : ℕ). kind_number (kind_of x)) (read z kind_field (p ∙ ap (field size nb n) q)))
+      field-kind {f} q p e = rw q (e ∙ ap (λ (x : ℕ). kind_number (kind_of x)) (read z kind_field p))
 
-      pub field-cover : {f r u k : ℕ} → f ≡ cover_field → u ≡ field size nb n f → k ≡ field size nb n kind_field → r ≡ if_covered (kind_of k) u → r ≡ final_field vars nb n edges f
+      pub field-cover : {f r u k : ℕ} → f ≡ cover_field → u ≡ field size nb n cover_field → k ≡ field size nb n kind_field → r ≡ if_covered (kind_of k) u → r ≡ final_field vars nb n edges f
       unfolding final_field
-      field-cover {f} q p o e = rw q (e ∙ (λ i. if_covered (kind_of (read z kind_field o i)) (read z cover_field (p ∙ ap (field size nb n) q) i)))
+      field-cover {f} q p o e = rw q (e ∙ (λ i. if_covered (kind_of (read z kind_field o i)) (read z cover_field p i)))
 
-      pub field-set : {f r : ℕ} → f ≡ tracked_field → r ≡ field size nb n f → r ≡ final_field vars nb n edges f
+      pub field-set : {f r : ℕ} → f ≡ tracked_field → r ≡ field size nb n tracked_field → r ≡ final_field vars nb n edges f
       unfolding final_field
-      field-set {f} q e = rw q (read z tracked_field (e ∙ ap (field size nb n) q))
+      field-set {f} q e = rw q (read z tracked_field e)
 
 -- A field is the same by another slice, where what it needs of the record is.
 module _ (vars n edges : ℕ) (old new : List ℕ) where
@@ -194,8 +194,3 @@ module _ {vars n edges i : ℕ} {old nb : List ℕ} (g : Going vars n edges i ol
       go : u ≡ F i → (f : ℕ) → f < i + 1 → Dec (f < i) → F f < field_limit
       go q f h (yes p) = g.small f p
       go q f h (no d) = let x : f ≡ i = omega arith in rw (x, ← q) s
-
-  pub going-over : field_count vars ≤ i → Laid (node_size vars * n) (final_record vars old n edges) old nb
-  going-over l =
-      let e : i ≡ field_count vars = omega (arith, g.within) in
-      subst (λ (k : ℕ). Laid (node_size vars * n) (tab k F) old nb) e g.laid

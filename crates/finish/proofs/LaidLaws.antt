@@ -101,8 +101,3 @@ laid_more f {at} {i} {u} {old} {mid} p h e s z =
 pub laid-start : (f : ℕ → ℕ) (at : ℕ) (l : List ℕ) → Laid at (tab 0 f) l l
 unfolding tab
 laid-start f at l = laid_none at l
-
-pub laid-over : (f : ℕ → ℕ) {at i n : ℕ} {old new : List ℕ} → Laid at (tab i f) old new → i ≤ n → n ≤ i → Laid at (tab n f) old new
-laid-over f {at} {i} {n} {old} {new} p l h =
-    let e : i ≡ n = omega arith in
-    subst (λ (k : ℕ). Laid at (tab k f) old new) e p

@@ -23,6 +23,7 @@ ghost use Rattle.finish.specs.Finish.{bodies_of};
 ghost use Rattle.finish.specs.Laid.{Laid, final_value, final_field, final_record, EdgesLaid, kind_in, Fits, OwnLaid, Ended};
 
 use expressions::MOST_EXPRESSIONS;
+use graph::{COVERED, EXPANDED, TARGET, WAITING};
 use nodes::{CHILD, COVER, KIND, SET, STATE};
 
 // ---- a node's final record
@@ -37,17 +38,13 @@ const EDGES: usize = 4;
 fn kind_of(k: usize) -> usize
     ensures { (result ≡ kind_number (kind_of k)) × (result < field_limit) }
 {
-    if k <= graph::TARGET {
-        k
-    } else {
-        graph::WAITING
-    }
+    if k <= TARGET { k } else { WAITING }
 }
 
 fn cover_of(kind: usize, cover: usize) -> usize
     ensures { (result ≡ if_covered (kind_of kind) cover) × (result ≤ cover) }
 {
-    if kind == graph::COVERED { cover } else { 0 }
+    if kind == COVERED { cover } else { 0 }
 }
 
 // Value v of node n: the concrete ones, then the label's, which are 0 where they are not tracked.
@@ -69,27 +66,19 @@ fn final_field(vars: usize, nb: &[u8], n: usize, edges: usize, f: usize) -> usiz
     requires { (vars ≤ most_variables) × (n ≤ field_limit) × (edges < field_limit) × (f < field_count vars) }
     ensures { (result ≡ final_field vars nb.now n edges f) × (result < field_limit) }
 {
-    if STATE <= f {
-        return final_value(vars, nb, n, f - STATE);
-    }
-    if f == VALUE_LOW {
-        return graph::UNITS % folder::FIELD_LIMIT;
-    }
-    if f == VALUE_HIGH {
-        return graph::UNITS / folder::FIELD_LIMIT;
-    }
-    if f == EDGES {
-        return edges;
-    }
     let size = graph::node_size(vars);
-    let u = folder::field(size, nb, n, f);
-    if f == KIND {
-        return kind_of(u);
+    match f {
+        KIND => kind_of(folder::field(size, nb, n, KIND)),
+        COVER => cover_of(
+            folder::field(size, nb, n, KIND),
+            folder::field(size, nb, n, COVER),
+        ),
+        VALUE_LOW => graph::UNITS % folder::FIELD_LIMIT,
+        VALUE_HIGH => graph::UNITS / folder::FIELD_LIMIT,
+        EDGES => edges,
+        SET => folder::field(size, nb, n, SET),
+        _ => final_value(vars, nb, n, f - STATE),
     }
-    if f == COVER {
-        return cover_of(folder::field(size, nb, n, KIND), u);
-    }
-    u
 }
 
 // From the record itself: what a field is made of has not been put yet, or says the same once it is put.
@@ -98,12 +87,9 @@ fn put_record(vars: usize, nb: &mut [u8], n: usize, edges: usize)
     requires whole { Whole vars nb.old n }
     ensures { Laid (node_size vars * n) (final_record vars nb.old n edges) nb.old nb.new }
 {
-    let last = STATE + 2 * vars;
-    let mut f = 0;
-    while f < last {
+    for f in 0..STATE + 2 * vars {
         let u = final_field(vars, nb, n, edges, f);
         nodes::put_field(vars, nb, n, f, u);
-        f += 1;
     }
 }
 
@@ -114,10 +100,8 @@ fn put_successors(nb: &mut [u8], at: usize, x: usize, count: usize)
     requires { (at + 2 * count ≤ length nb.old) × (x + count ≤ field_limit) }
     ensures { Laid at (tab count (λ b. x + b)) nb.old nb.new }
 {
-    let mut b = 0;
-    while b < count {
+    for b in 0..count {
         put::put_short(nb, at + 2 * b, x + b);
-        b += 1;
     }
 }
 
@@ -148,15 +132,13 @@ fn put_edges(
     let mut births = 0;
     let mut bytes = 0;
     let mut count = 0;
-    let mut c = 0;
-    while c < commands {
+    for c in 0..commands {
         let on = nodes::is_on(cs, row, c);
         let branches = folder::field(4, cs, c, 1);
         put_edge(on, nb, at + bytes, c, child + births, branches);
         births += nodes::if_on(on, branches);
         bytes += nodes::if_on(on, 2 + 2 * branches);
         count += nodes::if_on(on, 1);
-        c += 1;
     }
     count
 }
@@ -182,10 +164,11 @@ fn node_edges(m: &[u8], nb: &mut [u8], n: usize, at: usize) -> usize
     ensures { OwnLaid m.now nb.old n at result nb.new }
 {
     let size = graph::node_size(graph::variable_count(m));
-    if folder::field(size, nb, n, KIND) == graph::EXPANDED {
-        return expanded_edges(m, nb, n, at);
+    if folder::field(size, nb, n, KIND) == EXPANDED {
+        expanded_edges(m, nb, n, at)
+    } else {
+        0
     }
-    0
 }
 
 // Its edges hang on what its record has now, so they come first.
@@ -207,9 +190,7 @@ pub fn finish(m: &[u8], nodes: usize, begins: &[u32], nb: &mut [u8])
     ensures { nb.new ≡ over (bodies_of (model_of m.now) (held_in m.now nodes nb.old)) nb.old }
 {
     let first = graph::node_size(graph::variable_count(m)) * nodes;
-    let mut n = 0;
-    while n < nodes {
+    for n in 0..nodes {
         finish_node(m, nb, n, first + begins::begin_of(begins, n));
-        n += 1;
     }
 }

@@ -1,12 +1,11 @@
 -- The test of a contents entry decides its rule; a body as a part of the folder, and its records.
 -- Assumes nothing.
-use Prim.Native.Nat.{ℕ, suc, ◌+◌, ◌-◌, ◌*◌, ◌/◌, ◌%◌, ◌<◌, ◌≤◌}
-use mathlib.Core.Path.{◌≡◌, sym, ap, ◌∙◌}
+use Prim.Native.Nat.{ℕ, suc, ◌+◌, ◌*◌, ◌/◌, ◌%◌, ◌<◌, ◌≤◌}
+use mathlib.Core.Path.{◌≡◌}
 use mathlib.Core.List.{List}
-use native.Mathlib.Nat.{add-sub_cancel_left, mul-le-mul, mul-le-mul_left, mul-suc, mul-div-le, div-add-mod}
+use native.Mathlib.Nat.{mul-le-mul, mul-le-mul_left, mul-suc, mul-div-le, div-add-mod}
 use native.Mathlib.Omega.{arith}
-use lib.ListN.{length, take, drop, length-take, length-drop, drop_of_length-le, get_or-eq_default}
-use lib.Seq.{take_all, take-nil, drop-length}
+use lib.ListN.{length, length-take, length-drop, get_or-eq_default}
 use Rattle.folder.specs.Fields.{field_limit, field4_limit, u16, u32}
 use Rattle.folder.specs.Contents.{start_of, length_of, due_start, entry_ok, EntryRight, body, count_of, field4}
 use Rattle.folder.proofs.Decides.{Decides, at_most, same, ◌∧also◌, whenever, reworded}
@@ -21,21 +20,6 @@ entry-decided s k e = reworded
     (λ h. record { start = h.0.0; ends = h.0.1; final = h.1 })
     (λ r. ((r.start, r.ends), r.final))
     ((same (start_of s e) (due_start s k e) ∧also at_most (start_of s e + length_of s e) (length s)) ∧also whenever (same (e + 1) k) (same (start_of s e + length_of s e) (length s)))
-
--- A body as the code reaches it, with its start a and its length l: whole, cut short by the folder's end, or past it.
-module _ (s : List ℕ) (e : ℕ) {a l : ℕ} (p : a ≡ start_of s e) (q : l ≡ length_of s e) where
-  body_is : take l (drop a s) ≡ body s e
-  unfolding body
-  body_is = rw (p, q)
-
-  pub body-whole : take (a + l - a) (drop a s) ≡ body s e
-  body-whole = rw (add-sub_cancel_left a l) body_is
-
-  pub body-cut : length s - a < l → take (length s - a) (drop a s) ≡ body s e
-  body-cut h = take_all (length s - a) (drop a s) (omega (arith, length-drop a s)) ∙ sym (take_all l (drop a s) (omega (arith, length-drop a s))) ∙ body_is
-
-  pub body-none : length s < a → take (length s - length s) (drop (length s) s) ≡ body s e
-  body-none h = ap (take (length s - length s)) (drop-length s) ∙ take-nil (length s - length s) ∙ sym (take-nil l) ∙ ap (take l) (sym (drop_of_length-le s {i = a} (omega arith))) ∙ body_is
 
 -- A body is no longer than its entry says, and no longer than the folder.
 pub body-said : (s : List ℕ) (e : ℕ) → length (body s e) ≤ length_of s e

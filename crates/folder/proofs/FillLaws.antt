@@ -13,12 +13,12 @@ use Rattle.folder.specs.Tab.{tab, fill}
 use Rattle.folder.proofs.TabLaws.{length-tab, get_or-tab, tab-same, tab-own}
 
 module _ {A : Type 0} where
-  fill_none : (f : ℕ → A) (d : List A) → d ≡ fill 0 f d
+  pub fill_none : (f : ℕ → A) (d : List A) → d ≡ fill 0 f d
   unfolding tab
   fill_none f d = refl
 
   -- One element more.
-  fill_more : (f : ℕ → A) (d : List A) {i : ℕ} {v : A} {row : List A} → row ≡ fill i f d → v ≡ f i → i < length d → set row i v ≡ fill (i + 1) f d
+  pub fill_more : (f : ℕ → A) (d : List A) {i : ℕ} {v : A} {row : List A} → row ≡ fill i f d → v ≡ f i → i < length d → set row i v ≡ fill (i + 1) f d
   unfolding tab
   fill_more f d {i} p q l =
       rw (p, q, add-one, drop-cons d i (f i), append_assoc) (set_at (tab i f) (get_or d i (f i)) (drop (suc i) d) (f i) i (length-tab i f))

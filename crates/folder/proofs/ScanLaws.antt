@@ -18,7 +18,7 @@ bool_cases false = inr refl
 
 module _ (ok : ℕ → Bool) where
   -- a loop that counts i up: its invariant is `first_bad ok i ≡ i`
-  scan-none : first_bad ok 0 ≡ 0
+  pub scan-none : first_bad ok 0 ≡ 0
   unfolding first_bad
   scan-none = refl
 
@@ -26,7 +26,7 @@ module _ (ok : ℕ → Bool) where
   unfolding first_bad
   scan-suc i e h = simp (e, eq-eqb i i refl, h)
 
-  scan-more : (i : ℕ) → first_bad ok i ≡ i → ok i ≡ true → first_bad ok (i + 1) ≡ i + 1
+  pub scan-more : (i : ℕ) → first_bad ok i ≡ i → ok i ≡ true → first_bad ok (i + 1) ≡ i + 1
   scan-more i e h = rw add-one (scan-suc i e h)
 
   stop-here : (i : ℕ) → first_bad ok i ≡ i → ok i ≡ false → first_bad ok (suc i) ≡ i
@@ -37,7 +37,7 @@ module _ (ok : ℕ → Bool) where
   unfolding first_bad
   stop-later i n e l = simp (e, ne_eqb i n (λ q. omega arith))
 
-  scan-stop : (i n : ℕ) → first_bad ok i ≡ i → ok i ≡ false → i < n → first_bad ok n ≡ i
+  pub scan-stop : (i n : ℕ) → first_bad ok i ≡ i → ok i ≡ false → i < n → first_bad ok n ≡ i
   scan-stop i zero e h l = absurd (not-suc-le-zero l)
   scan-stop i (suc n) e h l =
       ⊎_elim (λ q. subst (λ (k : ℕ). first_bad ok (suc k) ≡ i) q (stop-here i e h))

@@ -7,20 +7,20 @@ use mathlib.Core.Logic.{◌⊎◌, inl, inr, ⊎_elim, ◌↔◌}
 use mathlib.Core.Bool.{Bool, true, false, false≢true}
 use mathlib.Core.List.{List, [], ◌∷◌, ◌++◌}
 use borrow.Author.Tests.{lt-ltb, le-ltb}
+use Rattle.std.proofs.lemmas.Bool.Decides.{leb_tells}
 use native.Mathlib.Nat.{eq-or-lt_of_le, le_refl}
 use native.Mathlib.Omega.{arith}
 use Rattle.folder.specs.Scan.{first_bad}
-use Rattle.folder.specs.Table.{Row, Rule, single, refused, cause, all_rules, first_broken, outcome, Holds, AllHold, none, more, BrokenAt, Broken, BrokenRule}
+use Rattle.folder.specs.Table.{Row, Rule, row, single, refused, cause, all_rules, first_broken, outcome, Holds, AllHold, none, more, BrokenAt, Broken, BrokenRule, Outcome}
 use Rattle.folder.specs.declared.Refusal.{Refusal}
 use Rattle.folder.specs.declared.Cause.{Cause}
-use Rattle.folder.specs.declared.Outcome.{Outcome}
-use Rattle.folder.specs.declared.Outcome.TheVariants.{Accepted, Refused}
 use Rattle.folder.proofs.Decides.{Decides}
 use Rattle.folder.proofs.ScanLaws.{found, all-passed, all_found, found_at}
+use Rattle.std.specs.Prelude.{Err, Ok, leb}
 
 -- ---- a chain of rows in the code, one law for each way
 module _ (r : Row) (rs : List Row) (p : ℕ) (e : p ≡ first_bad r.ok r.count) where
-  row-refused : p < r.count → outcome (r ∷ rs) ≡ Refused (r.gives p)
+  row-refused : p < r.count → outcome (r ∷ rs) ≡ Err (r.gives p)
   unfolding outcome
   row-refused l = rw (← e) (simp (lt-ltb p r.count l))
 
@@ -35,7 +35,7 @@ pub record Rest (whole rs : List Row) : Type 0 where
 pub no_row : (whole : List Row) → Rest whole whole
 no_row whole = record { same = refl }
 
-pub all-rows : {whole : List Row} → Rest whole [] → Accepted ≡ outcome whole
+pub all-rows : {whole : List Row} → Rest whole [] → (Ok tt) ≡ outcome whole
 unfolding outcome
 all-rows h = sym h.same
 
@@ -45,7 +45,7 @@ rest_of h e = e ∙ sym h.same
 
 -- The code has n places, and its scan answered p.
 module _ {whole : List Row} {r : Row} {rs : List Row} (h : Rest whole (r ∷ rs)) {n p : ℕ} (q : n ≡ r.count) (e : p ≡ first_bad r.ok n) where
-  pub refuses : p < n → Refused (r.gives p) ≡ outcome whole
+  pub refuses : p < n → Err (r.gives p) ≡ outcome whole
   refuses l = sym (h.same ∙ row-refused r rs p (e ∙ ap (first_bad r.ok) q) (omega arith))
 
   pub row-holds : n ≤ p → Rest whole rs
@@ -80,43 +80,43 @@ broken-of r f l e =
     let h = found r.ok r.count in
     record { at = first r; place = l; gives = e; broken = h.broken l; before = h.before }
 
-refused-of : (r : Row) (rs : List Row) → first r < r.count → outcome (r ∷ rs) ≡ Refused (r.gives (first r))
+refused-of : (r : Row) (rs : List Row) → first r < r.count → outcome (r ∷ rs) ≡ Err (r.gives (first r))
 refused-of r rs l = row-refused r rs (first r) refl l
 
-not-both : {A : Type 0} {o : Outcome} {f : Refusal} → o ≡ Accepted → o ≡ Refused f → A
+not-both : {A : Type 0} {o : Outcome} {f : Refusal} → o ≡ (Ok tt) → o ≡ Err f → A
 not-both e f = let z : ◌≡◌ {A = ℕ} 0 1 = cc in absurd (omega arith)
 
-accepted-row : (r : Row) (rs : List Row) → Ways r → outcome (r ∷ rs) ≡ Accepted → Holds r × (outcome rs ≡ Accepted)
+accepted-row : (r : Row) (rs : List Row) → Ways r → outcome (r ∷ rs) ≡ (Ok tt) → Holds r × (outcome rs ≡ (Ok tt))
 accepted-row r rs (inl q) e = (holds_of r q, sym (passed-of r rs q) ∙ e)
 accepted-row r rs (inr l) e = not-both e (refused-of r rs l)
 
-accepted-holds : (rs : List Row) → outcome rs ≡ Accepted → AllHold rs
+accepted-holds : (rs : List Row) → outcome rs ≡ (Ok tt) → AllHold rs
 accepted-holds [] e = none
 accepted-holds (r ∷ rs) e = let h = accepted-row r rs (ways r) e in more h.0 (accepted-holds rs h.1)
 
 passes : (r : Row) (rs : List Row) → Holds r → outcome (r ∷ rs) ≡ outcome rs
 passes r rs h = passed-of r rs (all_found r.ok r.count h.at)
 
-holds-accepted : {rs : List Row} → AllHold rs → outcome rs ≡ Accepted
+holds-accepted : {rs : List Row} → AllHold rs → outcome rs ≡ (Ok tt)
 unfolding outcome
 holds-accepted none = refl
 holds-accepted (more {r = r} {rs = rs} h t) = passes r rs h ∙ holds-accepted t
 
-refused-row : (r : Row) (rs : List Row) (f : Refusal) → Ways r → outcome (r ∷ rs) ≡ Refused f → BrokenAt r f ⊎ (Holds r × (outcome rs ≡ Refused f))
+refused-row : (r : Row) (rs : List Row) (f : Refusal) → Ways r → outcome (r ∷ rs) ≡ Err f → BrokenAt r f ⊎ (Holds r × (outcome rs ≡ Err f))
 refused-row r rs f (inl q) e = inr (holds_of r q, sym (passed-of r rs q) ∙ e)
 refused-row r rs f (inr l) e =
-    let h : outcome (r ∷ rs) ≡ Refused (r.gives (first r)) = refused-of r rs l in
+    let h : outcome (r ∷ rs) ≡ Err (r.gives (first r)) = refused-of r rs l in
     inl (broken-of r f l (cc))
 
-pub refused-broken : (rs : List Row) (f : Refusal) → outcome rs ≡ Refused f → Broken rs f
+pub refused-broken : (rs : List Row) (f : Refusal) → outcome rs ≡ Err f → Broken rs f
 unfolding outcome
 refused-broken [] f e = not-both refl e
 refused-broken (r ∷ rs) f e =
     ⊎_elim (λ b. Broken.here b) (λ h. Broken.later h.0 (refused-broken rs f h.1)) (refused-row r rs f (ways r) e)
 
-pub broken-refused : {rs : List Row} {f : Refusal} → Broken rs f → outcome rs ≡ Refused f
+pub broken-refused : {rs : List Row} {f : Refusal} → Broken rs f → outcome rs ≡ Err f
 broken-refused (Broken.here {r = r} {rs = rs} b) =
-    row-refused r rs b.at (sym (found_at r.ok r.count b.at b.place b.before b.broken)) b.place ∙ ap Refused b.gives
+    row-refused r rs b.at (sym (found_at r.ok r.count b.at b.place b.before b.broken)) b.place ∙ ap Err b.gives
 broken-refused (Broken.later {r = r} {rs = rs} h b) = passes r rs h ∙ broken-refused b
 
 -- ---- what each row of a table asks, and all of them
@@ -159,7 +159,7 @@ all_hold (more h a) b = more h (all_hold a b)
 pub tables-ask : (xs : List Row) {ys : List Row} {P Q : Type 0} → AllHold xs ↔ P → AllHold ys ↔ Q → AllHold (xs ++ ys) ↔ (P × Q)
 tables-ask xs {ys} p q = ((λ a. (p.0 (first-hold xs ys a), q.0 (then-hold xs ys a))), λ h. all_hold (p.1 h.0) (q.1 h.1))
 
-pub accepted-asks : {rs : List Row} {P : Type 0} → AllHold rs ↔ P → (outcome rs ≡ Accepted) ↔ P
+pub accepted-asks : {rs : List Row} {P : Type 0} → AllHold rs ↔ P → (outcome rs ≡ (Ok tt)) ↔ P
 accepted-asks {rs} e = ((λ h. e.0 (accepted-holds rs h)), λ p. holds-accepted (e.1 p))
 
 -- ---- a table after a table: the first one's refusal, or the second one's outcome
@@ -167,14 +167,14 @@ accepted-append : {xs : List Row} (ys : List Row) → AllHold xs → outcome (xs
 accepted-append ys none = refl
 accepted-append ys (more {r = r} {rs = rs} h t) = passes r (rs ++ ys) h ∙ accepted-append ys t
 
-pub accepted-then : (xs ys : List Row) → outcome xs ≡ Accepted → outcome (xs ++ ys) ≡ outcome ys
+pub accepted-then : (xs ys : List Row) → outcome xs ≡ (Ok tt) → outcome (xs ++ ys) ≡ outcome ys
 accepted-then xs ys e = accepted-append ys (accepted-holds xs e)
 
 broken-then : {xs : List Row} (ys : List Row) {f : Refusal} → Broken xs f → Broken (xs ++ ys) f
 broken-then ys (Broken.here b) = Broken.here b
 broken-then ys (Broken.later h b) = Broken.later h (broken-then ys b)
 
-pub refused-then : (xs ys : List Row) (f : Refusal) → outcome xs ≡ Refused f → outcome (xs ++ ys) ≡ Refused f
+pub refused-then : (xs ys : List Row) (f : Refusal) → outcome xs ≡ Err f → outcome (xs ++ ys) ≡ Err f
 refused-then xs ys f e = broken-refused (broken-then ys (refused-broken xs f e))
 
 -- ---- the rules of a place
@@ -214,3 +214,24 @@ pub broken-in : (xs : List Row) {ys : List Row} {f : Refusal} → Broken (xs ++ 
 broken-in [] b = inr (none, b)
 broken-in (x ∷ xs) (Broken.here b) = inl (Broken.here b)
 broken-in (x ∷ xs) (Broken.later h b) = ⊎_elim (λ c. inl (Broken.later h c)) (λ c. inr (more h c.0, c.1)) (broken-in xs b)
+
+-- A row whose scan answered p is one test, at p.
+pub scan-row : (number count p : ℕ) (good : ℕ → Bool) → p ≡ first_bad good count → outcome (single number p (leb count p) ∷ []) ≡ outcome (row number count good ∷ [])
+scan-row number count p good e = go (leb_tells count p)
+  where
+    one : Rest (single number p (leb count p) ∷ []) (single number p (leb count p) ∷ [])
+    one = no_row _
+
+    all : Rest (row number count good ∷ []) (row number count good ∷ [])
+    all = no_row _
+
+    go : ((leb count p ≡ true) × (count ≤ p)) ⊎ ((leb count p ≡ false) × (p < count)) → outcome (single number p (leb count p) ∷ []) ≡ outcome (row number count good ∷ [])
+    go (inl h) = sym (all-rows (test-holds one refl h.0)) ∙ all-rows (row-holds all refl e h.1)
+    go (inr h) = sym (test-refuses one refl h.0) ∙ refuses all refl e h.1
+
+-- ---- what a row that was passed says, for what comes after it
+pub row-told : (number count : ℕ) (ok : ℕ → Bool) {o : Outcome} → o ≡ outcome (row number count ok ∷ []) → o ≡ Ok tt → (p : ℕ) → p < count → ok p ≡ true
+row-told number count ok e t = (head-holds (accepted-holds _ (sym e ∙ t))).at
+
+pub test-told : (number place : ℕ) (ok : Bool) {o : Outcome} → o ≡ outcome (single number place ok ∷ []) → o ≡ Ok tt → ok ≡ true
+test-told number place ok e t = (head-holds (accepted-holds _ (sym e ∙ t))).at 0 (omega arith)

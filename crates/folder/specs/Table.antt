@@ -1,13 +1,15 @@
 -- Document 01, "Calls and refusals": a table of causes. The first row with a broken place refuses, at its lowest broken
 -- place.
 -- Assumes nothing.
-use Rattle.std.specs.Prelude.{ℕ, ◌<◌, ◌≡◌, Bool, true, false, ◌&&◌, List, [], ◌∷◌, ltb}
+use Rattle.std.specs.Prelude.{ℕ, ◌<◌, ◌≡◌, Bool, true, false, ◌&&◌, List, [], ◌∷◌, ltb, Result, Ok, Err, ⊤}
 use Rattle.folder.specs.Pick.{pick}
 use Rattle.folder.specs.Scan.{first_bad}
 use Rattle.folder.specs.declared.Refusal.{Refusal}
 use Rattle.folder.specs.declared.Cause.{Cause}
-use Rattle.folder.specs.declared.Outcome.{Outcome}
-use Rattle.folder.specs.declared.Outcome.TheVariants.{Accepted, Refused}
+
+-- What a check answers: acceptance, or a refusal.
+abbrev pub Outcome : Type 0
+Outcome = Result ⊤ Refusal
 
 -- The refusal with this number and these two places; the second is 0 (document 02, 2.2: for all but 19 and 21).
 abbrev pub refusal_at : ℕ → ℕ → ℕ → Refusal
@@ -17,12 +19,12 @@ abbrev pub refusal : ℕ → ℕ → Refusal
 refusal n p = refusal_at n p 0
 
 abbrev pub refused : ℕ → ℕ → Outcome
-refused n p = Refused (refusal n p)
+refused n p = Err (refusal n p)
 
 -- Document 01's number of an outcome, and the two places returned with it. Acceptance has none: 0.
 abbrev pub outcome_number : Outcome → ℕ
-outcome_number Accepted = 0
-outcome_number (Refused r) = r.number
+outcome_number (Ok _) = 0
+outcome_number (Err r) = r.number
 
 abbrev pub places : Refusal → List ℕ
 places r = r.place ∷ r.second ∷ []
@@ -31,8 +33,8 @@ abbrev pub no_places : List ℕ
 no_places = 0 ∷ 0 ∷ []
 
 abbrev pub outcome_places : Outcome → List ℕ
-outcome_places Accepted = no_places
-outcome_places (Refused r) = places r
+outcome_places (Ok _) = no_places
+outcome_places (Err r) = places r
 
 -- A row: places 0 to count − 1, the test of each, and the refusal that a broken one gives.
 pub record Row : Type 0 where
@@ -76,17 +78,17 @@ abbrev pub refusal_by : Cause → ℕ → Refusal
 refusal_by c p = refusal_at c.number p c.second
 
 abbrev pub refused_by : Cause → ℕ → Outcome
-refused_by c p = Refused (refusal_by c p)
+refused_by c p = Err (refusal_by c p)
 
 abbrev pub group : ℕ → (ℕ → List Rule) → Row
 group count rules = record { count = count; ok = λ p. all_rules (rules p); gives = λ p. refusal_by (first_broken (rules p)) p }
 
 abbrev pub row_at : Row → ℕ → Outcome → Outcome
-row_at r p rest = pick (ltb p r.count) (Refused (r.gives p)) rest
+row_at r p rest = pick (ltb p r.count) (Err (r.gives p)) rest
 
 -- What a table answers.
 unfoldable pub outcome : List Row → Outcome
-outcome [] = Accepted
+outcome [] = Ok tt
 outcome (r ∷ rs) = let rest = outcome rs in row_at r (first_bad r.ok r.count) rest
 
 -- ---- what an outcome says

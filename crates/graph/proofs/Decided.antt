@@ -22,13 +22,9 @@ use Rattle.folder.proofs.ContentsLaws.{entry-decided as contents-decided}
 use Rattle.folder.proofs.TableLaws.{refused-broken, row-asks, single-asks, ◌row-and◌, no_rows, put-so, tables-ask, accepted-asks}
 use Rattle.folder.specs.Table.{all_rules, AllHold, Broken}
 use Rattle.folder.specs.declared.Refusal.{Refusal}
-use Rattle.folder.specs.declared.Outcome.TheVariants.{Accepted, Refused}
 use Rattle.expressions.specs.Meaning.{number_in}
 use Rattle.expressions.specs.Reading.{is_known, is_true, is_false, reads}
-use Rattle.expressions.specs.declared.Number.{Number}
-use Rattle.expressions.specs.declared.Number.TheVariants.{Known, Unknown as Open}
-use Rattle.expressions.specs.declared.Truth.{Truth}
-use Rattle.expressions.specs.declared.Truth.TheVariants.{True, False, Unknown}
+use Rattle.expressions.specs.ThreeWay.{Number, Truth}
 use Rattle.whole.proofs.Order.{equal-decided}
 use Rattle.model.specs.Model.{Model, model_of, first_record}
 use Rattle.model.specs.Chances.{mdp}
@@ -41,32 +37,33 @@ use Rattle.model.specs.Table.{model_rows}
 use Rattle.model.proofs.Decided.{model-asks}
 use Rattle.graph.specs.Figures.{figure_rows, figure_outcome}
 use Rattle.graph.specs.Valid.{FigureRight, FolderRight, NodeRight, EdgeRight, StartsInitial, RightA1, RightA2, RightB1, Follows, RightB2, RightC3, RightC1, RightC2, RightValue, ContentRight, RulesRight, RowsRight, Valid}
+use Rattle.std.specs.Prelude.{Err, None, Ok, Some}
 
 -- ---- the readings
-known-decided : (t : Truth) → Decides (t ≢ Unknown) (is_known t)
-known-decided True = record { yes = λ e h. apart h; no = λ h. refl }
+known-decided : (t : Truth) → Decides (t ≢ None) (is_known t)
+known-decided (Some true) = record { yes = λ e h. apart h; no = λ h. refl }
   where
-    apart : True ≡ Unknown → ⊥
+    apart : (Some true) ≡ None → ⊥
     apart e = let z : ◌≡◌ {A = ℕ} 0 1 = cc in omega arith
-known-decided False = record { yes = λ e h. apart h; no = λ h. refl }
+known-decided (Some false) = record { yes = λ e h. apart h; no = λ h. refl }
   where
-    apart : False ≡ Unknown → ⊥
+    apart : (Some false) ≡ None → ⊥
     apart e = let z : ◌≡◌ {A = ℕ} 0 1 = cc in omega arith
-known-decided Unknown = record { yes = λ e. absurd (false≢true e); no = λ h. absurd (h refl) }
+known-decided None = record { yes = λ e. absurd (false≢true e); no = λ h. absurd (h refl) }
 
-pub true-decided : (t : Truth) → Decides (t ≡ True) (is_true t)
-true-decided True = record { yes = λ e. refl; no = λ e. refl }
-true-decided False = record { yes = λ e. absurd (false≢true e); no = λ e. cc }
-true-decided Unknown = record { yes = λ e. absurd (false≢true e); no = λ e. cc }
+pub true-decided : (t : Truth) → Decides (t ≡ (Some true)) (is_true t)
+true-decided (Some true) = record { yes = λ e. refl; no = λ e. refl }
+true-decided (Some false) = record { yes = λ e. absurd (false≢true e); no = λ e. cc }
+true-decided None = record { yes = λ e. absurd (false≢true e); no = λ e. cc }
 
-false-decided : (t : Truth) → Decides (t ≡ False) (is_false t)
-false-decided True = record { yes = λ e. absurd (false≢true e); no = λ e. cc }
-false-decided False = record { yes = λ e. refl; no = λ e. refl }
-false-decided Unknown = record { yes = λ e. absurd (false≢true e); no = λ e. cc }
+false-decided : (t : Truth) → Decides (t ≡ (Some false)) (is_false t)
+false-decided (Some true) = record { yes = λ e. absurd (false≢true e); no = λ e. cc }
+false-decided (Some false) = record { yes = λ e. refl; no = λ e. refl }
+false-decided None = record { yes = λ e. absurd (false≢true e); no = λ e. cc }
 
-reads-decided : (a : Number) (z : ℤ) → Decides (a ≡ Known z) (reads a z)
-reads-decided (Known a) z = reworded (ap Known) (λ e. cc) (equal-decided a z)
-reads-decided Open z = record { yes = λ e. absurd (false≢true e); no = λ e. cc }
+reads-decided : (a : Number) (z : ℤ) → Decides (a ≡ Some z) (reads a z)
+reads-decided (Some a) z = reworded (ap Some) (λ e. cc) (equal-decided a z)
+reads-decided None z = record { yes = λ e. absurd (false≢true e); no = λ e. cc }
 
 -- ---- rows 12 to 17
 pub bytes-decided : (g : List ℕ) → Decides ((least_bytes ≤ length g) × (length g ≤ most_bytes)) (bytes_fit g)
@@ -154,7 +151,7 @@ module _ (M : Model) (G : Simulation) where
   unfolding result_is
   result-decided n r s v = equal-decided (G.concrete s v) (number_in M.entries (concrete_state M G n) (M.assigned r v))
 
-  label-decided : (n r s v : ℕ) → Decides (tracks G s v ≡ true → number_of M G n (M.assigned r v) ≡ Known (G.label s v)) (label_follows M G n r s v)
+  label-decided : (n r s v : ℕ) → Decides (tracks G s v ≡ true → number_of M G n (M.assigned r v) ≡ Some (G.label s v)) (label_follows M G n r s v)
   unfolding label_follows
   label-decided n r s v = whenever (passes (tracks G s v)) (reads-decided (number_of M G n (M.assigned r v)) (G.label s v))
 
@@ -260,12 +257,12 @@ graph-asks m g = put-so
     (λ v. (v.model, (v.rows, v.rules)))
 
 -- Demand 2: a graph is accepted if and only if it keeps the rules.
-pub accepted-valid : (m g : List ℕ) → (graph_outcome m g ≡ Accepted) ↔ Valid m g
+pub accepted-valid : (m g : List ℕ) → (graph_outcome m g ≡ (Ok tt)) ↔ Valid m g
 unfolding graph_outcome
 accepted-valid m g = accepted-asks (graph-asks m g)
 
 -- A refusal is of the first broken row, at its lowest broken place, and each row before it holds.
-pub refused-first : (m g : List ℕ) (f : Refusal) → graph_outcome m g ≡ Refused f → Broken (model_rows m ++ graph_rows (model_of m) g) f
+pub refused-first : (m g : List ℕ) (f : Refusal) → graph_outcome m g ≡ Err f → Broken (model_rows m ++ graph_rows (model_of m) g) f
 unfolding graph_outcome
 refused-first m g f e = refused-broken (model_rows m ++ graph_rows (model_of m) g) f e
 
@@ -281,14 +278,14 @@ figure-asks G h first second = put-so
 
 -- The figure call is accepted if and only if the graph is, no node waits, and h and both rows are within their limits.
 pub figure-valid : (m g : List ℕ) (h : ℕ) (first second : List ℕ)
-    → (figure_outcome m g h first second ≡ Accepted) ↔ (Valid m g × FigureRight (simulation_of (model_of m) g) h first second)
+    → (figure_outcome m g h first second ≡ (Ok tt)) ↔ (Valid m g × FigureRight (simulation_of (model_of m) g) h first second)
 unfolding figure_outcome
 figure-valid m g h first second = accepted-asks (put-so
     (tables-ask (model_rows m) (model-asks m) (tables-ask (graph_rows (model_of m) g) (rows-ask (model_of m) g) (figure-asks (simulation_of (model_of m) g) h first second)))
     (λ a. (record { model = a.0; rows = a.1.0.0; rules = a.1.0.1 }, a.1.1))
     (λ v. (v.0.model, ((v.0.rows, v.0.rules), v.1))))
 
-pub figure-refused : (m g : List ℕ) (h : ℕ) (first second : List ℕ) (f : Refusal) → figure_outcome m g h first second ≡ Refused f
+pub figure-refused : (m g : List ℕ) (h : ℕ) (first second : List ℕ) (f : Refusal) → figure_outcome m g h first second ≡ Err f
     → Broken (model_rows m ++ graph_rows (model_of m) g ++ figure_rows (simulation_of (model_of m) g) h first second) f
 unfolding figure_outcome
 figure-refused m g h first second f e = refused-broken (model_rows m ++ graph_rows (model_of m) g ++ figure_rows (simulation_of (model_of m) g) h first second) f e

@@ -9,8 +9,7 @@ use Rattle.mdp.specs.Kinds.{Kind}
 use Rattle.mdp.specs.Graph.{figure}
 use Rattle.mdp.specs.Demand.{Demand3}
 use Rattle.mdp.proofs.Demand.{demand}
-use Rattle.folder.specs.declared.Outcome.{Outcome}
-use Rattle.folder.specs.declared.Outcome.TheVariants as O
+use Rattle.folder.specs.Table.{Outcome}
 use Rattle.folder.proofs.TabLaws.{length-tab, get_or-tab}
 use Rattle.model.specs.Model.{Model, model_of}
 use Rattle.model.specs.Chances.{mdp, initial_state}
@@ -23,10 +22,10 @@ use Rattle.graph.specs.Figures.{figures, figure_outcome, figure_part}
 use Rattle.graph.specs.Valid.{Valid}
 use Rattle.graph.specs.Demand.{Bounds, PartFits, Demand}
 use Rattle.graph.specs.declared.Summary.{Summary}
-use Rattle.graph.specs.declared.GraphAnswer.TheVariants.{Accepted}
 use Rattle.graph.proofs.CountLaws.{none-of-kind}
 use Rattle.graph.proofs.Decided.{accepted-valid, figure-valid}
 use Rattle.graph.proofs.Labelled.{kind-is, labelled, valued, own, root-contains}
+use Rattle.std.specs.Prelude.{Err, Ok}
 
 -- Of a graph that keeps the rules.
 module _ (m g : List ℕ) (A : Valid m g) where
@@ -46,11 +45,11 @@ module _ (m g : List ℕ) (A : Valid m g) where
   none-waits h n l e = h n l (kind-is (G.kind n) (A.rows.content.nodes n l).kind Kind.waiting e)
 
 -- ---- the graph check's answer
-pub answer-is : (o : Outcome) (t s : Summary) → answer_of o t ≡ Accepted s → (o ≡ O.Accepted) × (t ≡ s)
-answer-is O.Accepted t s e = (refl, cc)
-answer-is (O.Refused f) t s e = let z : ◌≡◌ {A = ℕ} 0 1 = cc in absurd (omega arith)
+pub answer-is : (o : Outcome) (t s : Summary) → answer_of o t ≡ Ok s → (o ≡ (Ok tt)) × (t ≡ s)
+answer-is (Ok _) t s e = (refl, cc)
+answer-is (Err f) t s e = let z : ◌≡◌ {A = ℕ} 0 1 = cc in absurd (omega arith)
 
-answer-bounds : (m g : List ℕ) (s : Summary) → graph_answer m g ≡ Accepted s → Bounds m g s
+answer-bounds : (m g : List ℕ) (s : Summary) → graph_answer m g ≡ Ok s → Bounds m g s
 unfolding graph_answer
 answer-bounds m g s e =
     let a = answer-is (graph_outcome m g) (summary (simulation_of (model_of m) g)) s e in
@@ -60,7 +59,7 @@ answer-bounds m g s e =
     (record { root = d.bound; figures = λ w. d.figures (none-waits m g A (none-of-kind (simulation_of (model_of m) g) 0 w)) })
 
 -- ---- the figure call's part
-part-fits : (m g : List ℕ) (h : ℕ) (first second : List ℕ) → figure_outcome m g h first second ≡ O.Accepted → PartFits m g h (figure_part m g h first second)
+part-fits : (m g : List ℕ) (h : ℕ) (first second : List ℕ) → figure_outcome m g h first second ≡ (Ok tt) → PartFits m g h (figure_part m g h first second)
 unfolding figure_part figures
 part-fits m g h first second e =
     let v = (figure-valid m g h first second).0 e in

@@ -1,70 +1,85 @@
 -- Row 16 as the code walks it: the edge at a position, the edges of a node, and the bytes after the last node's.
 -- Assumes nothing.
-use Prim.Native.Nat.{ℕ, ◌+◌, ◌≤◌, ◌<◌}
-use native.Mathlib.Nat.{not-le_of_lt, le_refl}
+use Prim.Native.Nat.{ℕ, ◌+◌, ◌<◌}
+use native.Mathlib.Nat.{le_refl}
 use native.Mathlib.Numerals.{add-one}
 use native.Mathlib.Omega.{arith}
-use mathlib.Core.Path.{◌≡◌, refl, sym, ap, ◌∙◌}
+use mathlib.Core.Path.{◌≡◌, refl, sym, ap, ◌∙◌, subst}
 use mathlib.Core.Bool.{Bool, true, false, ◌&&◌}
 use mathlib.Core.List.{List}
 use lib.ListN.{length}
 use lib.Dec.{ltb, leb, eqb}
-use borrow.Author.Tests.{leb-true, lt-ltb, le-ltb, eq-eqb, ne_eqb}
+use borrow.Author.Tests.{lt-ltb, le-ltb, eq-eqb, ne_eqb}
+use Rattle.std.specs.Prelude.{Option, Some, None, Ok, Err}
+use Rattle.std.specs.Bool.{then_some}
+use Rattle.folder.specs.Pick.{pick}
 use Rattle.folder.specs.Scan.{first_bad, all}
 use Rattle.folder.specs.Fields.{u16}
 use Rattle.folder.specs.Contents.{body, count_of, field}
-use Rattle.folder.proofs.ScanLaws.{Scanned, scan-start, scan-next, scan-found, scan-over, found-le}
-use Rattle.folder.proofs.Decides.{and_both}
+use Rattle.folder.proofs.ScanLaws.{scan-none, scan-more, scan-stop}
 use Rattle.model.specs.Model.{Model, model_of}
 use Rattle.graph.specs.Simulation.{edge_size, edge_after, edges_start, edge_whole, node_field, edge_at, node_count, simulation_of}
 use Rattle.graph.specs.Rules.{edge_fits, edges_fit}
-use Rattle.graph.specs.Walks.{successor_fits, edge_fits_at, edge_fits_from, EdgeAt, Walked, starts_at}
+use Rattle.graph.specs.Walks.{successor_fits, edge_fits_at, edge_fits_from, edge_end, edges_end, starts_at}
 
--- The code's test of an edge.
-abbrev pub edge_test : (command commands next long bad branches : ℕ) → Bool
-edge_test command commands next long bad branches = (ltb command commands && leb next long) && eqb bad branches
-
--- cs is the command body of the model folder m.
-pub edge-is : (m : List ℕ) {cs es : List ℕ} {nodes k command commands branches size bad : ℕ} → cs ≡ body m 3 → command ≡ u16 es k
-    → commands ≡ count_of 4 cs → branches ≡ field 4 cs command 1 → size ≡ edge_size (model_of m) es k → bad ≡ first_bad (successor_fits nodes es k) branches
-    → EdgeAt (model_of m) nodes es k (edge_test command commands (k + size) (length es) bad branches) (k + size)
-unfolding edge_fits_at edge_whole
-edge-is m {k = k} q pc pn pb ps p = record { fits = cc; ends = ap (λ (s : ℕ). k + s) ps }
-
--- An edge that fits ends by the body's end.
-pub edge-within : (command commands next long bad branches : ℕ) → edge_test command commands next long bad branches ≡ true → next ≤ long
-edge-within command commands next long bad branches h =
-    leb-true next long (and_both (ltb command commands) (leb next long) (and_both (ltb command commands && leb next long) (eqb bad branches) h).0).1
+-- cs is the command body of the model folder m, and `lead` whether all successors are nodes.
+pub edge-is : (m es : List ℕ) (nodes k : ℕ) {cs : List ℕ} {command commands branches size : ℕ} {lead : Bool} {end : Option ℕ} → cs ≡ body m 3
+    → command ≡ u16 es k → commands ≡ count_of 4 cs → branches ≡ field 4 cs command 1 → size ≡ edge_size (model_of m) es k
+    → lead ≡ all (successor_fits nodes es k) branches
+    → end ≡ then_some ((ltb command commands && leb (k + size) (length es)) && lead) (k + size)
+    → end ≡ edge_end (model_of m) nodes es k
+unfolding edge_end edge_fits_at edge_whole
+edge-is m es nodes k q pc pn pb ps p e = cc
 
 -- ---- the edges of a node, from a on
--- The walk has passed i of n edges, and stands at k.
-pub record Passed (M : Model) (nodes : ℕ) (es : List ℕ) (a n i k : ℕ) : Type 0 where
-  pub scanned : Scanned (edge_fits_from M nodes es a) n i
+some-told : (t : Bool) {x y : ℕ} → then_some t x ≡ Some y → (t ≡ true) × (x ≡ y)
+some-told true e = (refl, cc)
+some-told false e = cc
+
+none-told : (t : Bool) (x : ℕ) → then_some t x ≡ None → t ≡ false
+none-told true x e = cc
+none-told false x e = refl
+
+ok-told : (t : Bool) {x y : ℕ} (bad : ℕ) → pick t (Ok x) (Err bad) ≡ Ok y → (t ≡ true) × (x ≡ y)
+ok-told true bad e = (refl, cc)
+ok-told false bad e = cc
+
+err-told : (t : Bool) {y : ℕ} (x bad : ℕ) → pick t (Ok x) (Err bad) ≡ Err y → t ≡ false
+err-told true x bad e = cc
+err-told false x bad e = refl
+
+-- The walk has passed i edges, and stands at k.
+pub record Passed (M : Model) (nodes : ℕ) (es : List ℕ) (a i k : ℕ) : Type 0 where
+  pub scanned : first_bad (edge_fits_from M nodes es a) i ≡ i
   pub stands : k ≡ edge_after M es a i
 
 module _ {M : Model} {nodes : ℕ} {es : List ℕ} {a : ℕ} where
-  pub walk_start : (n : ℕ) → Passed M nodes es a n 0 a
+  pub walk_start : Passed M nodes es a 0 a
   unfolding edge_after
-  walk_start n = record { scanned = scan-start _ n; stands = refl }
+  walk_start = record { scanned = scan-none _; stands = refl }
 
-  module _ {n i k next : ℕ} {ok : Bool} (w : Passed M nodes es a n i k) (e : EdgeAt M nodes es k ok next) (l : i < n) where
-    here : ok ≡ edge_fits_from M nodes es a i
-    here = e.fits ∙ ap (edge_fits_at M nodes es) w.stands
+  module _ {i k : ℕ} (w : Passed M nodes es a i k) where
+    here : edge_fits_at M nodes es k ≡ edge_fits_from M nodes es a i
+    here = ap (edge_fits_at M nodes es) w.stands
 
-    pub walk-next : ok ≡ true → Passed M nodes es a n (i + 1) next
-    unfolding edge_after
-    walk-next t = record {
-      scanned = scan-next w.scanned l here t;
-      stands = rw add-one (e.ends ∙ ap (λ (x : ℕ). x + edge_size M es x) w.stands);
-    }
+    pub walk-next : {next : ℕ} → edge_end M nodes es k ≡ Some next → Passed M nodes es a (i + 1) next
+    unfolding edge_end edge_after
+    walk-next e =
+        let h = some-told (edge_fits_at M nodes es k) e in
+        record {
+          scanned = scan-more _ i w.scanned (sym here ∙ h.0);
+          stands = rw add-one (sym h.1 ∙ ap (λ (x : ℕ). x + edge_size M es x) w.stands);
+        }
 
-    pub walk-found : ok ≡ false → Walked M nodes es a n i k
-    walk-found t = record { first = scan-found w.scanned l here t; next = λ b. absurd (not-le_of_lt l b) }
+    pub walk-found : {n : ℕ} → i < n → edge_end M nodes es k ≡ None → Err i ≡ edges_end M nodes es a n
+    unfolding edge_end edges_end
+    walk-found {n} l e =
+        let q = scan-stop (edge_fits_from M nodes es a) i n w.scanned (sym here ∙ none-told (edge_fits_at M nodes es k) _ e) l in
+        rw (q, ne_eqb i n (λ h. omega arith)) refl
 
-  pub walk-over : {n i k : ℕ} → Passed M nodes es a n i k → n ≤ i → Walked M nodes es a n i k
-  walk-over {n} {i} w l =
-      let q : i ≡ n = omega (arith, w.scanned.within) in
-      record { first = scan-over w.scanned l; next = λ b. w.stands ∙ ap (edge_after M es a) q }
+    pub walk-over : {n : ℕ} → i ≡ n → Ok k ≡ edges_end M nodes es a n
+    unfolding edges_end
+    walk-over q = rw (← q, w.scanned, eq-eqb i i refl, w.stands) refl
 
 -- ---- the nodes
 module _ (M : Model) (g : List ℕ) where
@@ -77,55 +92,49 @@ module _ (M : Model) (g : List ℕ) where
   unfolding edges_fit
   edges-last = simp (le-ltb (node_count M g) (node_count M g) (le_refl _))
 
-  -- The walk has passed i of n nodes, and stands at k.
-  pub record Reached (n i k : ℕ) : Type 0 where
-    pub scanned : Scanned (edges_fit M (simulation_of M g)) (n + 1) i
-    pub within : i ≤ n
+  -- The walk has passed i nodes, and stands at k.
+  pub record Reached (i k : ℕ) : Type 0 where
+    pub scanned : first_bad (edges_fit M (simulation_of M g)) i ≡ i
     pub stands : k ≡ starts_at M g i
 
-  pub reach-start : (n : ℕ) → Reached n 0 0
+  pub reach-start : Reached 0 0
   unfolding edges_start
-  reach-start n = record { scanned = scan-start _ (n + 1); within = omega arith; stands = refl }
+  reach-start = record { scanned = scan-none _; stands = refl }
 
-  whole_row : {n p : ℕ} → n ≡ node_count M g → p ≡ first_bad (edges_fit M (simulation_of M g)) (n + 1) → p ≡ first_bad (edges_fit M (simulation_of M g)) (node_count M g + 1)
-  whole_row q e = e ∙ ap (λ (x : ℕ). first_bad (edges_fit M (simulation_of M g)) (x + 1)) q
-
--- Node i has `count` edges, and the walk over them from k found `bad` and ended at `next`.
-module _ (M : Model) (g : List ℕ) {es : List ℕ} {n i k count bad next : ℕ} (pe : es ≡ body g 1) (pn : n ≡ node_count M g) (r : Reached M g n i k)
-    (l : i < n) (pc : count ≡ node_field M g i 4) (w : Walked M n es k count bad next) where
-  here-fits : eqb bad count ≡ edges_fit M (simulation_of M g) i
+-- Node i has `count` edges, and the walk over them is from k.
+module _ (M : Model) (g : List ℕ) {es : List ℕ} {n i k count : ℕ} (pe : es ≡ body g 1) (pn : n ≡ node_count M g) (r : Reached M g i k)
+    (l : i < n) (pc : count ≡ node_field M g i 4) where
+  here-fits : all (edge_fits_from M n es k) count ≡ edges_fit M (simulation_of M g) i
   here-fits =
-      ap (λ (b : ℕ). eqb b count) w.first
-      ∙ (λ t. all (edge_fits_from M (pn t) (pe t) (r.stands t)) (pc t))
+      (λ t. all (edge_fits_from M (pn t) (pe t) (r.stands t)) (pc t))
       ∙ sym (edges-of M g i (omega arith))
 
-  pub reach-found : bad < count → i ≡ first_bad (edges_fit M (simulation_of M g)) (node_count M g + 1)
-  reach-found b = whole_row M g pn (scan-found r.scanned (omega arith) here-fits (ne_eqb bad count (λ e. omega arith)))
+  pub reach-found : {bad : ℕ} → edges_end M n es k count ≡ Err bad → i ≡ first_bad (edges_fit M (simulation_of M g)) (node_count M g + 1)
+  unfolding edges_end
+  reach-found e =
+      sym (scan-stop _ i (node_count M g + 1) r.scanned (sym here-fits ∙ err-told (all (edge_fits_from M n es k) count) _ _ e) (omega arith))
 
-  pub reach-next : count ≤ bad → Reached M g n (i + 1) next
-  unfolding edges_start
-  reach-next b =
-      let q : bad ≤ count = found-le _ count w.first in
+  pub reach-next : {next : ℕ} → edges_end M n es k count ≡ Ok next → Reached M g (i + 1) next
+  unfolding edges_end edges_start
+  reach-next e =
+      let h = ok-told (all (edge_fits_from M n es k) count) _ e in
       record {
-        scanned = scan-next r.scanned (omega arith) here-fits (eq-eqb bad count (omega arith));
-        within = omega arith;
-        stands = rw add-one (w.next b ∙ (λ t. edge_after M (pe t) (r.stands t) (pc t)));
+        scanned = scan-more _ i r.scanned (sym here-fits ∙ h.0);
+        stands = rw add-one (sym h.1 ∙ (λ t. edge_after M (pe t) (r.stands t) (pc t)));
       }
 
 -- All nodes are passed: the edges end at the body's end, or bytes are over.
-module _ (M : Model) (g : List ℕ) {es : List ℕ} {n i k : ℕ} (pe : es ≡ body g 1) (pn : n ≡ node_count M g) (r : Reached M g n i k) (l : n ≤ i) where
-  last_fits : eqb k (length es) ≡ edges_fit M (simulation_of M g) i
+module _ (M : Model) (g : List ℕ) {es : List ℕ} {n i k : ℕ} (pe : es ≡ body g 1) (pn : n ≡ node_count M g) (h : Reached M g i k) (q : i ≡ n) where
+  r : Reached M g n k
+  r = subst (λ (x : ℕ). Reached M g x k) q h
+
+  last_fits : eqb k (length es) ≡ edges_fit M (simulation_of M g) n
   last_fits =
-      let q : i ≡ node_count M g = omega (arith, r.within) in
-      (λ t. eqb ((r.stands ∙ ap (starts_at M g) q) t) (length (pe t))) ∙ sym (edges-last M g) ∙ ap (edges_fit M (simulation_of M g)) (sym q)
+      (λ t. eqb ((r.stands ∙ ap (starts_at M g) pn) t) (length (pe t))) ∙ sym (edges-last M g) ∙ ap (edges_fit M (simulation_of M g)) (sym pn)
 
   pub reach-over : k ≡ length es → n + 1 ≡ first_bad (edges_fit M (simulation_of M g)) (node_count M g + 1)
-  reach-over e =
-      let s = scan-next r.scanned (omega (arith, r.within)) last_fits (eq-eqb k (length es) e) in
-      let q : i + 1 ≡ n + 1 = omega (arith, r.within) in
-      whole_row M g pn (sym q ∙ scan-over s (omega arith))
+  reach-over e = sym (scan-more _ n r.scanned (sym last_fits ∙ eq-eqb k (length es) e)) ∙ ap (λ (x : ℕ). first_bad (edges_fit M (simulation_of M g)) (x + 1)) pn
 
   pub reach-left : (k ≡ length es → ⊥) → n ≡ first_bad (edges_fit M (simulation_of M g)) (node_count M g + 1)
-  reach-left h =
-      let q : n ≡ i = omega (arith, r.within) in
-      whole_row M g pn (q ∙ scan-found r.scanned (omega (arith, r.within)) last_fits (ne_eqb k (length es) h))
+  reach-left f =
+      sym (scan-stop _ n (n + 1) r.scanned (sym last_fits ∙ ne_eqb k (length es) f) (omega arith)) ∙ ap (λ (x : ℕ). first_bad (edges_fit M (simulation_of M g)) (x + 1)) pn

@@ -2,12 +2,11 @@
 -- Assumes nothing.
 use Prim.Native.Nat.{ℕ, ◌+◌, ◌/◌, ◌^◌}
 use mathlib.Core.Path.{◌≡◌}
-use mathlib.Core.Bool.{Bool, not, ◌&&◌}
+use mathlib.Core.Bool.{Bool, ◌&&◌, ◌||◌, not-not}
 use mathlib.Core.List.{List}
 use lib.Dec.{leb, eqb}
 use lib.IntN.{ℤ, pos}
-use Rattle.folder.specs.Pick.{implies}
-use Rattle.folder.specs.Scan.{first_bad}
+use Rattle.folder.specs.Scan.{all}
 use Rattle.folder.specs.Contents.{body, field, signed_field, field4}
 use Rattle.whole.specs.Order.{eq_z}
 use Rattle.expressions.specs.Reading.{has_bit}
@@ -21,24 +20,28 @@ use Rattle.graph.specs.Walks.{NodeBodies}
 
 -- Node n's values of variable v: b, e and i are what the code's tests answer.
 pub value-is : {m g : List ℕ} {variables : ℕ} {vs ns : List ℕ} → NodeBodies m g variables vs ns
-    → (n v : ℕ) {size set : ℕ} {low high concrete label : ℤ} {b tracked e i : Bool} → size ≡ node_size variables
+    → (n v : ℕ) {size set : ℕ} {low high concrete label : ℤ} {b tracked e : Bool} → size ≡ node_size variables
     → low ≡ signed_field 6 vs v 0 → high ≡ signed_field 6 vs v 1
     → concrete ≡ signed_field size ns n (6 + v) → label ≡ signed_field size ns n (6 + variables + v)
-    → b ≡ between low high concrete → set ≡ field size ns n 5 → tracked ≡ has_bit set v → e ≡ eq_z label (pos 0) → i ≡ implies (not tracked) e
-    → (b && i) ≡ values_fit (model_of m) (simulation_of (model_of m) g) n v
+    → b ≡ between low high concrete → set ≡ field size ns n 5 → tracked ≡ has_bit set v → e ≡ eq_z label (pos 0)
+    → (b && (tracked || e)) ≡ values_fit (model_of m) (simulation_of (model_of m) g) n v
 unfolding values_fit
-value-is h n v s pl ph pc pa pb ps pt pe pi = cc
+value-is h n v {tracked = tracked} s pl ph pc pa pb ps pt pe =
+    let t = not-not tracked in
+    cc
 
--- Node n: covers and leads are what its tests of the cover and of the edge count answer.
+-- Node n: covers and leads are what its tests of the cover and of the edge count answer, and values that of its values.
 pub node-is : {m g : List ℕ} {variables : ℕ} {vs ns : List ℕ} → NodeBodies m g variables vs ns
-    → (n : ℕ) {size kind cover value edges set bad : ℕ} {covers leads : Bool} → size ≡ node_size variables
+    → (n : ℕ) {size kind cover value edges set : ℕ} {values : Bool} → size ≡ node_size variables
     → kind ≡ field size ns n 0 → cover ≡ field size ns n 1 → value ≡ field4 size ns n 2 → edges ≡ field size ns n 4 → set ≡ field size ns n 5
-    → bad ≡ first_bad (values_fit (model_of m) (simulation_of (model_of m) g) n) variables
-    → covers ≡ implies (not (eqb kind 2)) (eqb cover 0) → leads ≡ implies (not (eqb kind 1)) (eqb edges 0)
-    → (((leb kind 3 && leb value units) && (covers && leads)) && (eqb (set / 2 ^ variables) 0 && eqb bad variables))
+    → values ≡ all (values_fit (model_of m) (simulation_of (model_of m) g) n) variables
+    → (((leb kind 3 && leb value units) && ((eqb kind 2 || eqb cover 0) && (eqb kind 1 || eqb edges 0))) && (eqb (set / 2 ^ variables) 0 && values))
     ≡ node_fits (model_of m) (simulation_of (model_of m) g) n
 unfolding node_fits head_fits
-node-is h n s pk pc pv pe ps pb qc ql = cc
+node-is h n {kind = kind} s pk pc pv pe ps pb =
+    let t = not-not (eqb kind 2) in
+    let u = not-not (eqb kind 1) in
+    cc
 
 -- The root's value of variable v.
 pub root_is : {m g : List ℕ} {variables : ℕ} {vs ns : List ℕ} → NodeBodies m g variables vs ns

@@ -8,7 +8,6 @@ use native.Mathlib.Omega.{arith}
 use Rattle.folder.specs.Fields.{field_limit}
 use Rattle.folder.specs.Table.{outcome}
 use Rattle.folder.specs.declared.Refusal.{Refusal}
-use Rattle.folder.specs.declared.Outcome.TheVariants.{Accepted, Refused}
 use Rattle.folder.proofs.TableLaws.{accepted-asks, accepted-then, refused-then}
 use Rattle.model.specs.Limits.{most_variables}
 use Rattle.model.specs.Layout.{variable_count}
@@ -19,17 +18,18 @@ use Rattle.graph.specs.Simulation.{node_count, simulation_of}
 use Rattle.graph.specs.Table.{first_rows, rule_rows, graph_rows}
 use Rattle.graph.specs.Valid.{FolderRight, RowsRight}
 use Rattle.graph.proofs.Decided.{first-ask}
+use Rattle.std.specs.Prelude.{Err, Ok}
 
 module _ (M : Model) (g : List ℕ) where
   -- They hold if and only if the rules do.
-  pub rows_right : (outcome (first_rows M g) ≡ Accepted) ↔ RowsRight M g
+  pub rows_right : (outcome (first_rows M g) ≡ (Ok tt)) ↔ RowsRight M g
   rows_right = accepted-asks (first-ask M g)
 
   -- Where they hold the table's outcome is that of the rows after them, and where one is broken it is theirs.
-  pub rows_then : outcome (first_rows M g) ≡ Accepted → outcome (graph_rows M g) ≡ outcome (rule_rows M (simulation_of M g))
+  pub rows_then : outcome (first_rows M g) ≡ (Ok tt) → outcome (graph_rows M g) ≡ outcome (rule_rows M (simulation_of M g))
   rows_then = accepted-then (first_rows M g) (rule_rows M (simulation_of M g))
 
-  pub rows-refused : (f : Refusal) → outcome (first_rows M g) ≡ Refused f → outcome (graph_rows M g) ≡ Refused f
+  pub rows-refused : (f : Refusal) → outcome (first_rows M g) ≡ Err f → outcome (graph_rows M g) ≡ Err f
   rows-refused = refused-then (first_rows M g) (rule_rows M (simulation_of M g))
 
 -- The counts that the code's reads of a node ask for.

@@ -13,15 +13,13 @@ use Rattle.folder.specs.Scan.{first_bad, all}
 use Rattle.folder.specs.Table.{Row, refusal, refusal_by, group, BrokenAt, Broken, BrokenRule}
 use Rattle.folder.specs.declared.Refusal.{Refusal}
 use Rattle.folder.specs.declared.Cause.{Cause}
-use Rattle.folder.specs.declared.Outcome.TheVariants.{Refused}
 use Rattle.folder.proofs.ScanLaws.{found, stops-below, all_true}
 use Rattle.folder.proofs.Decides.{second-fails, implies-fails}
 use Rattle.folder.proofs.TableLaws.{Gives, each, over, given, each-rule, rules-end, rule-given, broken-in, first-broken}
 use Rattle.expressions.specs.Reading.{is_known}
 use Rattle.expressions.specs.Mentions.{lacked}
 use Rattle.expressions.specs.Right.{IsTruth}
-use Rattle.expressions.specs.declared.Truth.{Truth}
-use Rattle.expressions.specs.declared.Truth.TheVariants.{True, False, Unknown}
+use Rattle.expressions.specs.ThreeWay.{Truth}
 use Rattle.expressions.specs.Combinations.{Proper}
 use Rattle.expressions.proofs.States.{truth-misses}
 use Rattle.model.specs.Model.{Model, model_of}
@@ -36,14 +34,15 @@ use Rattle.graph.specs.Seconds.{open_guard, second19, bad_edge, bad_branch, succ
 use Rattle.graph.specs.Valid.{NodeRight, ContentRight}
 use Rattle.graph.proofs.Decided.{a1-decided, first-ask, refused-first}
 use Rattle.graph.proofs.Labelled.{proper}
+use Rattle.std.specs.Prelude.{Err, None, Some}
 
 -- ---- readings
-unknown-is : (t : Truth) → is_known t ≡ false → t ≡ Unknown
-unknown-is True e = absurd (false≢true (sym e))
-unknown-is False e = absurd (false≢true (sym e))
-unknown-is Unknown e = refl
+unknown-is : (t : Truth) → is_known t ≡ false → t ≡ None
+unknown-is (Some true) e = absurd (false≢true (sym e))
+unknown-is (Some false) e = absurd (false≢true (sym e))
+unknown-is None e = refl
 
-known_is : (t : Truth) → is_known t ≡ true → t ≢ Unknown
+known_is : (t : Truth) → is_known t ≡ true → t ≢ None
 known_is t e q = false≢true (sym (ap is_known q) ∙ e)
 
 module _ (M : Model) (G : Simulation) (n : ℕ) where
@@ -52,7 +51,7 @@ module _ (M : Model) (G : Simulation) (n : ℕ) where
   guards-before l k h = known_is _ ((found (λ c. is_known (truth_of M G n (M.guard c))) M.commands).before k (omega arith))
 
   module _ (right : ModelRight M) (P : Proper (label_of M G n)) where
-    lacks : (e : ℕ) → IsTruth M.entries e → truth_of M G n e ≡ Unknown → LacksVariable M G n e (lacked (reading_of M G n e))
+    lacks : (e : ℕ) → IsTruth M.entries e → truth_of M G n e ≡ None → LacksVariable M G n e (lacked (reading_of M G n e))
     lacks e i o = rw o (truth-misses M.entries (label_of M G n) P e right.entries i o)
 
     by-guards : G.kind n ≡ 1 → open_guard M G n < M.commands → Second19 M G n (second19 M G n)
@@ -64,9 +63,9 @@ module _ (M : Model) (G : Simulation) (n : ℕ) where
         (lacks (M.guard (open_guard M G n)) (right.commands (open_guard M G n) l).guard o))
 
     by-target : (t : Truth) → truth_of M G n M.target ≡ t → (G.kind n ≡ 1 → GuardsKnown M G n M.commands) → Second19 M G n (lacked (reading_of M G n M.target))
-    by-target True e k = rw e (Second19.definite k (known_is _ (ap is_known e)))
-    by-target False e k = rw e (Second19.definite k (known_is _ (ap is_known e)))
-    by-target Unknown e k = Second19.by-target _ k e (lacks M.target right.target e)
+    by-target (Some true) e k = rw e (Second19.definite k (known_is _ (ap is_known e)))
+    by-target (Some false) e k = rw e (Second19.definite k (known_is _ (ap is_known e)))
+    by-target None e k = Second19.by-target _ k e (lacks M.target right.target e)
 
     pub second-19 : Second19 M G n (second19 M G n)
     unfolding second19
@@ -195,6 +194,6 @@ module _ (m g : List ℕ) where
       ⊎_elim (λ c. given rows_told c) (λ h. rules-told M G right ((first-ask M g).0 h.0).content (last-broken h.1)) (broken-in (first_rows M g) b)
 
   -- Request 2.2: both places of every refusal of the graph check.
-  pub second-told : (f : Refusal) → graph_outcome m g ≡ Refused f → ToldOf f
+  pub second-told : (f : Refusal) → graph_outcome m g ≡ Err f → ToldOf f
   second-told f e =
       ⊎_elim (λ b. given model-told b) (λ h. graph-told ((model-asks m).0 h.0).model h.1) (broken-in (model_rows m) (refused-first m g f e))

@@ -7,14 +7,11 @@ use mathlib.Core.Logic.{◌↔◌, ◌≢◌}
 use mathlib.Core.Bool.{Bool, true, false}
 use mathlib.Core.List.{List}
 use lib.IntN.{ℤ}
-use Rattle.folder.specs.declared.Outcome.TheVariants.{Accepted}
 use Rattle.folder.proofs.TabLaws.{passing-same}
 use Rattle.expressions.specs.Limits.{most_combinations}
 use Rattle.expressions.specs.Meaning.{State, number_in, truth_in}
 use Rattle.expressions.specs.Reading.{known_truth, is_true}
-use Rattle.expressions.specs.declared.Number.TheVariants.{Known}
-use Rattle.expressions.specs.declared.Truth.{Truth}
-use Rattle.expressions.specs.declared.Truth.TheVariants.{True, False, Unknown}
+use Rattle.expressions.specs.ThreeWay.{Truth}
 use Rattle.expressions.specs.Combinations.{Proper}
 use Rattle.expressions.specs.States.{ways, truth_three}
 use Rattle.expressions.proofs.States.{number-stays, truth-stays, truth-opens, number-complete, truth-complete}
@@ -26,6 +23,7 @@ use Rattle.graph.specs.Table.{graph_outcome}
 use Rattle.graph.specs.Valid.{NodeRight, ContentRight, RightA1, RightA2, RightB1, RightB2, RulesRight, ValidThreeWay}
 use Rattle.graph.proofs.Decided.{accepted-valid}
 use Rattle.graph.proofs.Labelled.{proper, holds, contained}
+use Rattle.std.specs.Prelude.{None, Ok, Some}
 
 -- ---- rules kept by document 01's reading are kept
 module _ (M : Model) (G : Simulation) (n : ℕ) (P : Proper (label_of M G n)) where
@@ -37,10 +35,10 @@ module _ (M : Model) (G : Simulation) (n : ℕ) (P : Proper (label_of M G n)) wh
   }
 
   -- A guard that is not unknown is enabled in both readings, or in neither.
-  enabled-stays : (e : ℕ) (t : Truth) → truth_three M.entries (label_of M G n) e ≡ t → t ≢ Unknown → is_true t ≡ is_true (truth_of M G n e)
-  enabled-stays e True q h = sym (ap is_true (truth-stays M.entries (label_of M G n) P e true q))
-  enabled-stays e False q h = sym (ap is_true (truth-stays M.entries (label_of M G n) P e false q))
-  enabled-stays e Unknown q h = absurd (h refl)
+  enabled-stays : (e : ℕ) (t : Truth) → truth_three M.entries (label_of M G n) e ≡ t → t ≢ None → is_true t ≡ is_true (truth_of M G n e)
+  enabled-stays e (Some true) q h = sym (ap is_true (truth-stays M.entries (label_of M G n) P e true q))
+  enabled-stays e (Some false) q h = sym (ap is_true (truth-stays M.entries (label_of M G n) P e false q))
+  enabled-stays e None q h = absurd (h refl)
 
   b1-stays : RightA2 M G (three_way M G) n → RightB1 M G (three_way M G) n → RightB1 M G (by_states M G) n
   b1-stays r f k =
@@ -68,7 +66,7 @@ rules-stay M G K A = record {
     is-proper n l = proper M G n (K.nodes n l) (A.a1 n l)
 
 -- No graph that was accepted before is refused now.
-pub stays-accepted : (m g : List ℕ) → ValidThreeWay m g → graph_outcome m g ≡ Accepted
+pub stays-accepted : (m g : List ℕ) → ValidThreeWay m g → graph_outcome m g ≡ (Ok tt)
 stays-accepted m g A = (accepted-valid m g).1
     (record { model = A.model; rows = A.rows; rules = rules-stay (model_of m) (simulation_of (model_of m) g) A.rows.content A.rules })
 
@@ -81,7 +79,7 @@ module _ (M : Model) (G : Simulation) (n : ℕ) (N : NodeRight M G n) (A : Right
       let h = truth-complete M.entries (label_of M G n) (proper M G n N A) e few b in
       ((λ k s c. h.0 k s (holds M G n s c)), λ f. h.1 (λ s c. f s (contained M G n s c)))
 
-  pub number-reading-complete : (z : ℤ) → (number_of M G n e ≡ Known z) ↔ ((s : State) → Contains M G n s → number_in M.entries s e ≡ z)
+  pub number-reading-complete : (z : ℤ) → (number_of M G n e ≡ Some z) ↔ ((s : State) → Contains M G n s → number_in M.entries s e ≡ z)
   number-reading-complete z =
       let h = number-complete M.entries (label_of M G n) (proper M G n N A) e few z in
       ((λ k s c. h.0 k s (holds M G n s c)), λ f. h.1 (λ s c. f s (contained M G n s c)))

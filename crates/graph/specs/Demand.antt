@@ -1,9 +1,8 @@
 -- Demand 3 of two folders' bytes: what an accepted graph gives, whoever built it.
 -- Assumes nothing.
-use Rattle.std.specs.Prelude.{ℕ, ◌<◌, ◌≡◌, List, get_or, length}
+use Rattle.std.specs.Prelude.{ℕ, ◌<◌, ◌≡◌, List, get_or, length, Ok}
 use Rattle.mdp.specs.Demand.{RootBounds, FigureFits}
 use Rattle.mdp.specs.Graph.{figure}
-use Rattle.folder.specs.declared.Outcome.TheVariants as O
 use Rattle.model.specs.Model.{model_of}
 use Rattle.model.specs.Chances.{mdp, initial_state}
 use Rattle.graph.specs.Limits.{units}
@@ -12,7 +11,6 @@ use Rattle.graph.specs.Labels.{concrete_state}
 use Rattle.graph.specs.Table.{graph_answer}
 use Rattle.graph.specs.Figures.{figure_outcome, figure_part}
 use Rattle.graph.specs.declared.Summary.{Summary}
-use Rattle.graph.specs.declared.GraphAnswer.TheVariants.{Accepted}
 
 module _ (m g : List ℕ) where
   -- Of the graph check's answer s: the root value bounds every strategy; and if no node is waiting, every node's figure
@@ -31,5 +29,5 @@ module _ (m g : List ℕ) where
   -- No hypothesis but acceptance.
   abbrev pub Demand : Type 0
   Demand =
-      ((s : Summary) → graph_answer m g ≡ Accepted s → Bounds s)
-      × ((h : ℕ) (first second : List ℕ) → figure_outcome m g h first second ≡ O.Accepted → PartFits h (figure_part m g h first second))
+      ((s : Summary) → graph_answer m g ≡ Ok s → Bounds s)
+      × ((h : ℕ) (first second : List ℕ) → figure_outcome m g h first second ≡ (Ok tt) → PartFits h (figure_part m g h first second))

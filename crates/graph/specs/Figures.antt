@@ -1,12 +1,10 @@
 -- Document 01, "Figures": the figure call, rows 26 to 28 after the graph's, and the content of both rows.
 -- Assumes nothing.
-use Rattle.std.specs.Prelude.{ℕ, ◌-◌, ◌%◌, Bool, true, not, List, [], ◌∷◌, ◌++◌, length, drop, leb, eqb}
+use Rattle.std.specs.Prelude.{ℕ, ◌-◌, ◌%◌, Bool, true, not, List, [], ◌∷◌, ◌++◌, length, drop, leb, eqb, Err, Ok}
 use Rattle.mdp.specs.Graph.{figure}
 use Rattle.folder.specs.Pick.{pick}
 use Rattle.folder.specs.Tab.{tab}
-use Rattle.folder.specs.Table.{Row, row, single, outcome}
-use Rattle.folder.specs.declared.Outcome.{Outcome}
-use Rattle.folder.specs.declared.Outcome.TheVariants.{Accepted, Refused}
+use Rattle.folder.specs.Table.{Row, row, single, outcome, Outcome}
 use Rattle.model.specs.Model.{Model, model_of}
 use Rattle.model.specs.Table.{model_rows}
 use Rattle.model.specs.Chances.{mdp}
@@ -42,22 +40,22 @@ over figs row = figs ++ drop (length figs) row
 module _ (M : Model) (G : Simulation) (h : ℕ) where
   -- The rows at exit. The other row holds round h − 1, or is untouched at h = 0. Refused, both rows stay.
   abbrev pub first_of : Outcome → List ℕ → List ℕ
-  first_of Accepted first = pick (in_first h) (over (figures M G h) first) (over (figures M G (h - 1)) first)
-  first_of (Refused f) first = first
+  first_of (Ok _) first = pick (in_first h) (over (figures M G h) first) (over (figures M G (h - 1)) first)
+  first_of (Err f) first = first
 
   abbrev pub second_of : Outcome → List ℕ → List ℕ
-  second_of Accepted second = pick (eqb h 0) second (pick (in_first h) (over (figures M G (h - 1)) second) (over (figures M G h) second))
-  second_of (Refused f) second = second
+  second_of (Ok _) second = pick (eqb h 0) second (pick (in_first h) (over (figures M G (h - 1)) second) (over (figures M G h) second))
+  second_of (Err f) second = second
 
   -- The part handed back holds the figures; refused, it is the empty part. It starts where the row does: the first row,
   -- or the second one where h is odd.
   abbrev pub part_of : Outcome → List ℕ
-  part_of Accepted = figures M G h
-  part_of (Refused f) = []
+  part_of (Ok _) = figures M G h
+  part_of (Err f) = []
 
   abbrev pub part_in_first : Outcome → Bool
-  part_in_first Accepted = in_first h
-  part_in_first (Refused f) = true
+  part_in_first (Ok _) = in_first h
+  part_in_first (Err f) = true
 
 module _ (m g : List ℕ) (h : ℕ) (first second : List ℕ) where
   unfoldable pub first_row : List ℕ

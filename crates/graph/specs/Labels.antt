@@ -7,9 +7,7 @@ use Rattle.expressions.specs.Meaning.{State, value_of}
 use Rattle.expressions.specs.Reading.{has_bit, look_in}
 use Rattle.expressions.specs.Combinations.{Label}
 use Rattle.expressions.specs.States.{number_three, truth_three, number_read, truth_read, truth_told}
-use Rattle.expressions.specs.declared.Number.{Number}
-use Rattle.expressions.specs.declared.Truth.{Truth}
-use Rattle.expressions.specs.declared.TruthReading.{TruthReading}
+use Rattle.expressions.specs.ThreeWay.{Number, Truth, TruthReading}
 use Rattle.model.specs.Model.{Model, bound}
 use Rattle.model.specs.Chances.{InRange}
 use Rattle.graph.specs.Simulation.{Simulation}

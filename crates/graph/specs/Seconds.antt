@@ -1,13 +1,12 @@
 -- Document 02, 2.2: the second places of refusals 19 and 21.
 -- Assumes nothing.
-use Rattle.std.specs.Prelude.{ℕ, ◌+◌, ◌<◌, ◌≡◌, ◌≢◌, Bool, true, false, ◌&&◌, ltb}
+use Rattle.std.specs.Prelude.{ℕ, ◌+◌, ◌<◌, ◌≡◌, ◌≢◌, Bool, true, false, ◌&&◌, ltb, None}
 use Rattle.folder.specs.Pick.{pick}
 use Rattle.folder.specs.Scan.{first_bad, all}
 use Rattle.folder.specs.declared.Refusal.{Refusal}
 use Rattle.expressions.specs.Limits.{no_variable}
 use Rattle.expressions.specs.Reading.{is_known}
 use Rattle.expressions.specs.Mentions.{mentions, lacked, Lowest}
-use Rattle.expressions.specs.declared.Truth.TheVariants.{Unknown}
 use Rattle.model.specs.Model.{Model, first_record}
 use Rattle.graph.specs.Simulation.{Simulation}
 use Rattle.graph.specs.Labels.{tracks, truth_of, reading_of}
@@ -46,12 +45,12 @@ module _ (M : Model) (G : Simulation) (n : ℕ) where
 
   -- The guards below c are not unknown.
   abbrev pub GuardsKnown : ℕ → Type 0
-  GuardsKnown c = (k : ℕ) → k < c → truth_of M G n (M.guard k) ≢ Unknown
+  GuardsKnown c = (k : ℕ) → k < c → truth_of M G n (M.guard k) ≢ None
 
   pub data Second19 : ℕ → Type 0 where
-    by-guard : (c v : ℕ) → G.kind n ≡ 1 → c < M.commands → GuardsKnown c → truth_of M G n (M.guard c) ≡ Unknown → LacksVariable (M.guard c) v → Second19 v
-    by-target : (v : ℕ) → (G.kind n ≡ 1 → GuardsKnown M.commands) → truth_of M G n M.target ≡ Unknown → LacksVariable M.target v → Second19 v
-    definite : (G.kind n ≡ 1 → GuardsKnown M.commands) → truth_of M G n M.target ≢ Unknown → Second19 no_variable
+    by-guard : (c v : ℕ) → G.kind n ≡ 1 → c < M.commands → GuardsKnown c → truth_of M G n (M.guard c) ≡ None → LacksVariable (M.guard c) v → Second19 v
+    by-target : (v : ℕ) → (G.kind n ≡ 1 → GuardsKnown M.commands) → truth_of M G n M.target ≡ None → LacksVariable M.target v → Second19 v
+    definite : (G.kind n ≡ 1 → GuardsKnown M.commands) → truth_of M G n M.target ≢ None → Second19 no_variable
 
   -- The edges below e, and of edge e the branches below b, follow.
   pub record FollowsBelow (e b : ℕ) : Type 0 where

@@ -1,20 +1,17 @@
 -- The graph check: rows 12 to 25 after the model's, 18 to 25 finished for one node before the next.
 -- Assumes nothing.
-use Rattle.std.specs.Prelude.{ℕ, ◌+◌, List, [], ◌∷◌, ◌++◌, eqb}
+use Rattle.std.specs.Prelude.{ℕ, ◌+◌, List, [], ◌∷◌, ◌++◌, eqb, Err, Ok, Result}
+use Rattle.folder.specs.declared.Refusal.{Refusal}
 use Rattle.mdp.specs.Sums.{sum}
 use Rattle.folder.specs.Pick.{pick}
 use Rattle.folder.specs.Contents.{entry_ok}
-use Rattle.folder.specs.Table.{Row, Rule, places, no_places, row, rule, rule_at, single, group, outcome}
-use Rattle.folder.specs.declared.Outcome.{Outcome}
-use Rattle.folder.specs.declared.Outcome.TheVariants as O
+use Rattle.folder.specs.Table.{Row, Rule, places, no_places, row, rule, rule_at, single, group, outcome, Outcome}
 use Rattle.model.specs.Model.{Model, model_of}
 use Rattle.model.specs.Table.{model_rows}
 use Rattle.graph.specs.Simulation.{Simulation, bodies, simulation_of}
 use Rattle.graph.specs.Rules.{bytes_fit, nodes_fit, node_fits, edges_fit, root_fits, A1, A2, B1, B2, C3, C1, C2, value_rule}
 use Rattle.graph.specs.Seconds.{second19, second21}
 use Rattle.graph.specs.declared.Summary.{Summary}
-use Rattle.graph.specs.declared.GraphAnswer.{GraphAnswer}
-use Rattle.graph.specs.declared.GraphAnswer.TheVariants.{Accepted, Refused}
 
 -- The rows that say that the bytes are a folder of nodes and edges.
 abbrev pub folder_rows : Model → List ℕ → List Row
@@ -64,9 +61,13 @@ summary G = record {
   target = kind_count G 3;
 }
 
+-- What an accepted graph has, or the refusal.
+abbrev pub GraphAnswer : Type 0
+GraphAnswer = Result Summary Refusal
+
 abbrev pub answer_of : Outcome → Summary → GraphAnswer
-answer_of O.Accepted s = Accepted s
-answer_of (O.Refused f) s = Refused f
+answer_of (Ok _) s = Ok s
+answer_of (Err f) s = Err f
 
 -- What the graph check answers.
 unfoldable pub graph_answer : List ℕ → List ℕ → GraphAnswer
@@ -74,14 +75,14 @@ graph_answer m g = answer_of (graph_outcome m g) (summary (simulation_of (model_
 
 -- Document 01's number of a graph check's answer, and the two places returned with it. Acceptance has none: 0.
 abbrev pub answer_number : GraphAnswer → ℕ
-answer_number (Accepted s) = 0
-answer_number (Refused f) = f.number
+answer_number (Ok s) = 0
+answer_number (Err f) = f.number
 
 abbrev pub answer_places : GraphAnswer → List ℕ
-answer_places (Accepted s) = no_places
-answer_places (Refused f) = places f
+answer_places (Ok s) = no_places
+answer_places (Err f) = places f
 
 -- The root value and the count of nodes of each kind, by the kind's number. A refusal has none: 0.
 abbrev pub answer_values : GraphAnswer → List ℕ
-answer_values (Accepted s) = s.root ∷ s.waiting ∷ s.expanded ∷ s.covered ∷ s.target ∷ []
-answer_values (Refused f) = 0 ∷ 0 ∷ 0 ∷ 0 ∷ 0 ∷ []
+answer_values (Ok s) = s.root ∷ s.waiting ∷ s.expanded ∷ s.covered ∷ s.target ∷ []
+answer_values (Err f) = 0 ∷ 0 ∷ 0 ∷ 0 ∷ 0 ∷ []

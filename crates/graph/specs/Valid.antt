@@ -1,14 +1,12 @@
 -- Rows 12 to 25, in document 01's words. (Rules.antt has their tests.) Those that read expressions are said of any readings
 -- R: since document 02, 2.4, the check goes by all states of a label.
 -- Assumes nothing.
-use Rattle.std.specs.Prelude.{ℕ, ◌+◌, ◌*◌, ◌/◌, ◌%◌, ◌^◌, ◌<◌, ◌≤◌, ◌≡◌, ◌≢◌, true, false, List, length, pos, ◌≤ℤ◌}
+use Rattle.std.specs.Prelude.{ℕ, ◌+◌, ◌*◌, ◌/◌, ◌%◌, ◌^◌, ◌<◌, ◌≤◌, ◌≡◌, ◌≢◌, true, false, List, length, pos, ◌≤ℤ◌, None, Some}
 use Rattle.mdp.specs.Graph.{along}
 use Rattle.folder.specs.Tab.{tab, passing}
 use Rattle.folder.specs.Contents.{body, EntryRight as ContentsRight}
 use Rattle.expressions.specs.Meaning.{number_in}
 use Rattle.expressions.specs.Reading.{is_true}
-use Rattle.expressions.specs.declared.Number.TheVariants.{Known}
-use Rattle.expressions.specs.declared.Truth.TheVariants.{True, False, Unknown}
 use Rattle.model.specs.Model.{Model, model_of, first_record}
 use Rattle.model.specs.Chances.{mdp, initial_state}
 use Rattle.model.specs.Valid as Models
@@ -60,9 +58,9 @@ module _ (M : Model) (G : Simulation) where
 
   -- A2: expanded, and no guard unknown and the target false; target, and the target true.
   pub record RightA2 (R : Readings) (n : ℕ) : Type 0 where
-    pub guards : G.kind n ≡ 1 → (c : ℕ) → c < M.commands → R.truth n (M.guard c) ≢ Unknown
-    pub no_target : G.kind n ≡ 1 → R.truth n M.target ≡ False
-    pub target : G.kind n ≡ 3 → R.truth n M.target ≡ True
+    pub guards : G.kind n ≡ 1 → (c : ℕ) → c < M.commands → R.truth n (M.guard c) ≢ None
+    pub no_target : G.kind n ≡ 1 → R.truth n M.target ≡ (Some false)
+    pub target : G.kind n ≡ 3 → R.truth n M.target ≡ (Some true)
 
   -- B1: expanded, and its edges are the enabled commands, each once, ascending.
   abbrev pub RightB1 : Readings → ℕ → Type 0
@@ -73,7 +71,7 @@ module _ (M : Model) (G : Simulation) where
     pub concrete : (v : ℕ) → v < M.variables
         → G.concrete (G.successor n e b) v ≡ number_in M.entries (concrete_state M G n) (M.assigned (first_record M (G.command n e) + b) v)
     pub label : (v : ℕ) → v < M.variables → tracks G (G.successor n e b) v ≡ true
-        → R.number n (M.assigned (first_record M (G.command n e) + b) v) ≡ Known (G.label (G.successor n e b) v)
+        → R.number n (M.assigned (first_record M (G.command n e) + b) v) ≡ Some (G.label (G.successor n e b) v)
 
   abbrev pub RightB2 : Readings → ℕ → Type 0
   RightB2 R n = G.kind n ≡ 1 → (e : ℕ) → e < G.edges n → (b : ℕ) → b < M.branches (G.command n e) → Follows R n e b

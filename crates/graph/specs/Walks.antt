@@ -1,7 +1,9 @@
 -- What the code holds while it goes over nodes and edges: bodies as slices of their own, and a position among the edges.
 -- Assumes nothing.
-use Rattle.std.specs.Prelude.{ℕ, ◌+◌, ◌≤◌, ◌≡◌, Bool, List, ltb}
-use Rattle.folder.specs.Scan.{first_bad}
+use Rattle.std.specs.Prelude.{ℕ, ◌+◌, ◌≡◌, Bool, List, ltb, Option, Result, Ok, Err}
+use Rattle.std.specs.Bool.{then_some}
+use Rattle.folder.specs.Pick.{pick}
+use Rattle.folder.specs.Scan.{first_bad, all}
 use Rattle.folder.specs.Contents.{body}
 use Rattle.model.specs.Model.{Model}
 use Rattle.model.specs.Layout.{variable_count}
@@ -27,16 +29,14 @@ module _ (M : Model) (nodes : ℕ) (es : List ℕ) where
   unfoldable pub edge_fits_at : ℕ → Bool
   edge_fits_at k = edge_stands M nodes (command_in es k) (edge_whole M es k) (successor_in es k)
 
-  -- The edge at k fits, as `ok` says, and ends at `next`.
-  pub record EdgeAt (k : ℕ) (ok : Bool) (next : ℕ) : Type 0 where
-    pub fits : ok ≡ edge_fits_at k
-    pub ends : next ≡ k + edge_size M es k
+  -- Where the edge at k ends, if it fits.
+  unfoldable pub edge_end : ℕ → Option ℕ
+  edge_end k = then_some (edge_fits_at k) (k + edge_size M es k)
 
   -- The edge that is j edges after the one at a fits.
   abbrev pub edge_fits_from : ℕ → ℕ → Bool
   edge_fits_from a j = edge_fits_at (edge_after M es a j)
 
-  -- A walk over n edges from a: `bad` is the lowest that does not fit, or n; if all do, the edge after them stands at k.
-  pub record Walked (a n bad k : ℕ) : Type 0 where
-    pub first : bad ≡ first_bad (edge_fits_from a) n
-    pub next : n ≤ bad → k ≡ edge_after M es a n
+  -- Where the edge after the n edges from a on stands, if all of them fit; or the number of the lowest that does not.
+  unfoldable pub edges_end : ℕ → ℕ → Result ℕ ℕ
+  edges_end a n = pick (all (edge_fits_from a) n) (Ok (edge_after M es a n)) (Err (first_bad (edge_fits_from a) n))

@@ -4,9 +4,8 @@
 
 #![tactic(auto)]
 
-ghost use Rattle.std.specs.Prelude.{◌≡◌, true, List, ℕ, ◌+◌, ◌<◌, ◌≤◌, ◌^◌, length, drop};
+ghost use Rattle.std.specs.Prelude.{◌≡◌, List, ℕ, ◌+◌, ◌<◌, ◌≤◌, ◌^◌, length, drop, IfSome, IfOk};
 ghost use Rattle.folder.specs.Fields.{field_limit};
-ghost use Rattle.folder.specs.Pick.{implies};
 ghost use Rattle.folder.specs.Scan.{first_bad};
 ghost use Rattle.folder.specs.Table.{outcome};
 ghost use Rattle.folder.specs.Contents.{body};
@@ -14,15 +13,14 @@ ghost use Rattle.whole.specs.Order.{eq_z};
 ghost use Rattle.model.specs.Limits.{most_variables};
 ghost use Rattle.model.specs.Layout.{variable_count};
 ghost use Rattle.model.specs.Model.{model_of};
-ghost use Rattle.model.specs.Rules.{between};
 ghost use Rattle.model.specs.Valid.{Valid};
 ghost use Rattle.graph.specs.Limits.{most_bytes, most_nodes};
 ghost use Rattle.graph.specs.Simulation.{node_size, node_count, edge_size, simulation_of};
 ghost use Rattle.graph.specs.Rules.{bytes_fit, nodes_fit, values_fit, node_fits, edges_fit, root_fits};
 ghost use Rattle.graph.specs.Table.{first_rows, kind_count};
-ghost use Rattle.graph.specs.Walks.{NodeBodies, successor_fits, EdgeAt, Walked};
+ghost use Rattle.graph.specs.Walks.{NodeBodies, edge_end, edges_end};
 
-use folder::{Outcome, Refusal};
+use folder::Refusal;
 
 // Certainty, in units.
 pub const UNITS: usize = 1000000000;
@@ -45,31 +43,13 @@ pub const COVERED: usize = 2;
 pub const TARGET: usize = 3;
 
 // Of an accepted graph: the root's value, and how many nodes there are of each kind.
-#[derive(Clone, Copy)]
+#[derive(Clone, Copy, Debug, PartialEq, Eq)]
 pub struct Summary {
     pub root: usize,
     pub waiting: usize,
     pub expanded: usize,
     pub covered: usize,
     pub target: usize,
-}
-
-#[derive(Clone, Copy)]
-pub enum GraphAnswer {
-    Accepted(Summary),
-    Refused(Refusal),
-}
-
-fn implies(a: bool, b: bool) -> bool
-    ensures { result ≡ implies a b }
-{
-    !a | b
-}
-
-fn between(low: i64, high: i64, x: i64) -> bool
-    ensures { result ≡ between low high x }
-{
-    (low <= x) & (x <= high)
 }
 
 fn bytes_fit(g: &[u8]) -> bool
@@ -120,22 +100,7 @@ fn value_fits(variables: usize, vs: &[u8], ns: &[u8], n: usize, v: usize) -> boo
     let tracked = expressions::has_bit(folder::field(size, ns, n, 5), v);
     let concrete = folder::signed_field(size, ns, n, 6 + v);
     let label = folder::signed_field(size, ns, n, 6 + variables + v);
-    between(low, high, concrete) & implies(!tracked, whole::equal(label, 0))
-}
-
-fn first_bad_value(variables: usize, vs: &[u8], ns: &[u8], n: usize) -> usize
-    requires { (variables ≤ most_variables) × (n < field_limit) }
-    ensures { (m g : List ℕ) → NodeBodies m g variables vs.now ns.now → result ≡ first_bad (values_fit (model_of m) (simulation_of (model_of m) g) n) variables }
-{
-    let mut i = 0;
-    while i < variables {
-        if value_fits(variables, vs, ns, n, i) {
-            i += 1;
-        } else {
-            return i;
-        }
-    }
-    i
+    ((low <= concrete) & (concrete <= high)) & (tracked | whole::equal(label, 0))
 }
 
 // Row 15.
@@ -149,46 +114,10 @@ fn node_fits(variables: usize, vs: &[u8], ns: &[u8], n: usize) -> bool
     let value = folder::field4(size, ns, n, 2);
     let edges = folder::field(size, ns, n, 4);
     let set = folder::field(size, ns, n, 5);
-    let bad = first_bad_value(variables, vs, ns, n);
-    let covers = implies(kind != COVERED, cover == 0);
-    let leads = implies(kind != EXPANDED, edges == 0);
-    (((kind <= TARGET) & (value <= UNITS)) & (covers & leads))
-        & ((set >> variables == 0) & (bad == variables))
-}
-
-fn first_bad_node(m: &[u8], g: &[u8]) -> usize
-    requires valid { Valid m.now }
-    requires g_bound { node_count (model_of m.now) g.now ≤ most_nodes }
-    ensures { result ≡ first_bad (node_fits (model_of m.now) (simulation_of (model_of m.now) g.now)) (node_count (model_of m.now) g.now) }
-{
-    let variables = variable_count(m);
-    let n = node_count(m, g);
-    let vs = folder::body(m, 1);
-    let ns = folder::body(g, 0);
-    let mut i = 0;
-    while i < n {
-        if node_fits(variables, vs, ns, i) {
-            i += 1;
-        } else {
-            return i;
-        }
-    }
-    i
-}
-
-fn first_bad_successor(es: &[u8], nodes: usize, k: usize, branches: usize) -> usize
-    requires { (k < 2 ^ 40) × (branches < field_limit) }
-    ensures { result ≡ first_bad (successor_fits nodes es.now k) branches }
-{
-    let mut i = 0;
-    while i < branches {
-        if folder::u16_at(es, k + 2 + 2 * i) < nodes {
-            i += 1;
-        } else {
-            return i;
-        }
-    }
-    i
+    let head = (kind <= TARGET) & (value <= UNITS);
+    let parts = ((kind == COVERED) | (cover == 0)) & ((kind == EXPANDED) | (edges == 0));
+    let values = folder::all(variables, |v| value_fits(variables, vs, ns, n, v));
+    (head & parts) & ((set >> variables == 0) & values)
 }
 
 // Bytes of the edge at k.
@@ -200,49 +129,33 @@ pub fn edge_size(cs: &[u8], es: &[u8], k: usize) -> usize
     2 + 2 * folder::field(4, cs, command, 1)
 }
 
-// An edge: it fits, and where it ends.
-#[derive(Clone, Copy)]
-struct Edge {
-    fits: bool,
-    end: usize,
-}
-
-// The edge at k.
-fn edge_at(cs: &[u8], es: &[u8], nodes: usize, k: usize) -> Edge
+// Where the edge at k ends, if it fits.
+fn edge_end(cs: &[u8], es: &[u8], nodes: usize, k: usize) -> Option<usize>
     requires { k < 2 ^ 40 }
-    ensures { ((m : List ℕ) → cs.now ≡ body m 3 → EdgeAt (model_of m) nodes es.now k result.fits result.end) × (result.fits ≡ true → result.end ≤ length es.now) }
+    ensures at { (m : List ℕ) → cs.now ≡ body m 3 → result ≡ edge_end (model_of m) nodes es.now k }
+    ensures within { IfSome result (λ end. end ≤ length es.now) }
 {
     let command = folder::u16_at(es, k);
     let branches = folder::field(4, cs, command, 1);
     let end = k + edge_size(cs, es, k);
-    let bad = first_bad_successor(es, nodes, k, branches);
-    let fits = ((command < folder::count_of(4, cs)) & (end <= es.len())) & (bad == branches);
-    Edge { fits, end }
+    let lead = folder::all(branches, |b| folder::u16_at(es, k + 2 + 2 * b) < nodes);
+    (((command < folder::count_of(4, cs)) & (end <= es.len())) & lead).then_some(end)
 }
 
-// A walk over a node's edges: the lowest that does not fit, or their count, and where it ended.
-#[derive(Clone, Copy)]
-struct Walk {
-    bad: usize,
-    at: usize,
-}
-
-fn walk_edges(cs: &[u8], es: &[u8], nodes: usize, from: usize, count: usize) -> Walk
+// Where the `count` edges from `from` on end, if all fit; or the number of the lowest that does not.
+fn walk_edges(cs: &[u8], es: &[u8], nodes: usize, from: usize, count: usize) -> Result<usize, usize>
     requires { (from ≤ length es.now) × (length es.now ≤ most_bytes) }
-    ensures { ((m : List ℕ) → cs.now ≡ body m 3 → Walked (model_of m) nodes es.now from count result.bad result.at) × (result.at ≤ length es.now) }
+    ensures at { (m : List ℕ) → cs.now ≡ body m 3 → result ≡ edges_end (model_of m) nodes es.now from count }
+    ensures within { IfOk result (λ end. end ≤ length es.now) }
 {
-    let mut i = 0;
     let mut k = from;
-    while i < count {
-        let edge = edge_at(cs, es, nodes, k);
-        if edge.fits {
-            k = edge.end;
-            i += 1;
-        } else {
-            return Walk { bad: i, at: k };
-        }
+    for e in 0..count {
+        let Some(end) = edge_end(cs, es, nodes, k) else {
+            return Err(e);
+        };
+        k = end;
     }
-    Walk { bad: i, at: k }
+    Ok(k)
 }
 
 // Row 16: the lowest node with an edge that does not fit; where all fit and bytes are over, the node count.
@@ -256,17 +169,12 @@ fn first_bad_edges(m: &[u8], g: &[u8]) -> usize
     let cs = folder::body(m, 3);
     let ns = folder::body(g, 0);
     let es = folder::body(g, 1);
-    let mut i = 0;
     let mut at = 0;
-    while i < n {
-        let count = folder::field(size, ns, i, 4);
-        let w = walk_edges(cs, es, n, at, count);
-        let bad = w.bad;
-        if bad < count {
+    for i in 0..n {
+        let Ok(end) = walk_edges(cs, es, n, at, folder::field(size, ns, i, 4)) else {
             return i;
-        }
-        at = w.at;
-        i += 1;
+        };
+        at = end;
     }
     if at == es.len() { n + 1 } else { n }
 }
@@ -282,22 +190,11 @@ fn root_fits_at(variables: usize, vs: &[u8], ns: &[u8], v: usize) -> bool
     whole::equal(concrete, initial)
 }
 
-fn root_fits(m: &[u8], g: &[u8]) -> bool
-    requires { Valid m.now }
-    ensures { result ≡ root_fits (model_of m.now) (simulation_of (model_of m.now) g.now) }
+fn root_fits(variables: usize, vs: &[u8], ns: &[u8]) -> bool
+    requires { variables ≤ most_variables }
+    ensures { (m g : List ℕ) → NodeBodies m g variables vs.now ns.now → result ≡ root_fits (model_of m) (simulation_of (model_of m) g) }
 {
-    let variables = variable_count(m);
-    let vs = folder::body(m, 1);
-    let ns = folder::body(g, 0);
-    let mut i = 0;
-    while i < variables {
-        if root_fits_at(variables, vs, ns, i) {
-            i += 1;
-        } else {
-            return false;
-        }
-    }
-    true
+    folder::all(variables, |v| root_fits_at(variables, vs, ns, v))
 }
 
 // How many nodes are of kind k.
@@ -310,52 +207,38 @@ pub fn kind_count(m: &[u8], g: &[u8], k: usize) -> usize
     let n = node_count(m, g);
     let ns = folder::body(g, 0);
     let mut total = 0;
-    let mut i = 0;
-    while i < n {
+    for i in 0..n {
         if folder::field(size, ns, i, 0) == k {
             total += 1;
         }
-        i += 1;
     }
     total
 }
 
 // Rows 15 to 17.
-fn check_contents(m: &[u8], g: &[u8]) -> Outcome
+#[tactic(auto, unfolding(folder::specs::Table::outcome))]
+fn check_contents(m: &[u8], g: &[u8]) -> Result<(), Refusal>
     requires valid { Valid m.now }
     requires g_bound { (node_count (model_of m.now) g.now ≤ most_nodes) × (length g.now ≤ most_bytes) }
     ensures { result ≡ outcome (drop 3 (first_rows (model_of m.now) g.now)) }
 {
+    let variables = variable_count(m);
     let n = node_count(m, g);
-    let node = first_bad_node(m, g);
-    if node < n {
-        return folder::refuse(15, node);
-    }
-    let edges = first_bad_edges(m, g);
-    if edges < n + 1 {
-        return folder::refuse(16, edges);
-    }
-    if root_fits(m, g) {
-        Outcome::Accepted
-    } else {
-        folder::refuse(17, 0)
-    }
+    let vs = folder::body(m, 1);
+    let ns = folder::body(g, 0);
+    folder::check_each(15, n, |i| node_fits(variables, vs, ns, i))?;
+    folder::check_scan(16, n + 1, first_bad_edges(m, g))?;
+    folder::check(17, 0, root_fits(variables, vs, ns))
 }
 
 // Rows 12 to 17.
-pub fn check_rows(m: &[u8], g: &[u8]) -> Outcome
+#[tactic(auto, unfolding(folder::specs::Table::outcome))]
+pub fn check_rows(m: &[u8], g: &[u8]) -> Result<(), Refusal>
     requires { Valid m.now }
     ensures { result ≡ outcome (first_rows (model_of m.now) g.now) }
 {
-    if !bytes_fit(g) {
-        return folder::refuse(12, 0);
-    }
-    let entry = folder::first_bad_entry(g, 2);
-    if entry < 2 {
-        return folder::refuse(13, entry);
-    }
-    if !nodes_fit(variable_count(m), folder::body(g, 0)) {
-        return folder::refuse(14, 0);
-    }
+    folder::check(12, 0, bytes_fit(g))?;
+    folder::check_scan(13, 2, folder::first_bad_entry(g, 2))?;
+    folder::check(14, 0, nodes_fit(variable_count(m), folder::body(g, 0)))?;
     check_contents(m, g)
 }

@@ -2,11 +2,14 @@
 -- Assumes nothing.
 use Prim.Native.Nat.{ℕ, ◌+◌, ◌<◌}
 use native.Mathlib.Omega.{arith}
-use mathlib.Core.Path.{◌≡◌, refl, ap, ◌∙◌}
-use mathlib.Core.List.{List}
+use mathlib.Core.Path.{◌≡◌, refl, sym, ap, ◌∙◌}
+use mathlib.Core.Bool.{Bool, true, false, ◌&&◌, false≢true}
+use mathlib.Core.List.{List, [], ◌∷◌, ◌++◌}
 use lib.ListN.{length, get_or, replicate, length-replicate}
 use borrow.Author.Tests.{ne_eqb}
-use Rattle.folder.specs.Table.{cause, first_broken}
+use Rattle.folder.specs.Pick.{pick}
+use Rattle.folder.specs.Table.{Rule, rule_at, cause, all_rules, first_broken}
+use Rattle.folder.specs.declared.Cause.{Cause}
 use Rattle.folder.specs.Contents.{body, count_of}
 use Rattle.model.specs.Layout.{variable_count}
 use Rattle.model.specs.Model.{model_of}
@@ -18,7 +21,6 @@ use Rattle.graph.specs.Limits.{most_nodes}
 use Rattle.graph.specs.Simulation.{node_size, node_field, node_count, simulation_of}
 use Rattle.graph.specs.Rules.{A2, B1, B2}
 use Rattle.graph.specs.Valid.{RowsRight}
-use Rattle.graph.specs.Table.{node_rules}
 use Rattle.graph.specs.Walks.{starts_at}
 use Rattle.graph.proofs.EdgePlaces.{place-skip}
 use Rattle.sums.specs.Tables.{Tables}
@@ -29,19 +31,84 @@ use Rattle.labels.specs.Values.{ValueReady}
 use Rattle.mentions.specs.Masked.{Written}
 use Rattle.mentions.proofs.Masks.{masked}
 use Rattle.expand.specs.Node.{NodeOf, FirstsOf, MasksOf}
-use Rattle.graph_rules.specs.Ready.{RulesReady, reading_rules}
-use Rattle.folder.proofs.RuleLaws.{Numbered, none, more}
+use Rattle.graph_rules.specs.Ready.{RulesReady, Checked, reading_rules}
+use Rattle.std.specs.Prelude.{Result, Ok, Err, MatchResult}
 
-module _ (m g : List ℕ) (n : ℕ) where
-  pub reading-numbered : Numbered (reading_rules m g n)
-  reading-numbered = more 18 (more 19 (more 20 none))
+-- ---- a chain of rules: of those of `whole`, those before rs hold
+pub record Past (whole rs : List Rule) : Type 0 where
+  pub first : first_broken whole ≡ first_broken rs
+  pub all : all_rules whole ≡ all_rules rs
 
-  pub node-numbered : Numbered (node_rules (model_of m) (simulation_of (model_of m) g) n)
-  node-numbered = more 17 (more 18 (more 19 (more 20 (more 21 (more 22 (more 23 (more 24 none)))))))
+pub at-first : (whole : List Rule) → Past whole whole
+at-first whole = record { first = refl; all = refl }
+
+pub past-last : {whole : List Rule} → Past whole [] → all_rules whole ≡ true
+unfolding all_rules
+past-last h = h.all
+
+-- The next rule.
+module _ {whole rs : List Rule} {k s : ℕ} {ok : Bool} (h : Past whole (rule_at k ok s ∷ rs)) where
+  pub goes-on : ok ≡ true → Past whole rs
+  unfolding first_broken all_rules
+  goes-on e = record {
+    first = h.first ∙ ap (λ (b : Bool). pick b (first_broken rs) (cause k s)) e;
+    all = h.all ∙ ap (λ (b : Bool). b && all_rules rs) e;
+  }
+
+  pub breaks : {c : Cause} → (ok ≡ false) × (c ≡ cause k s) → (all_rules whole ≡ false) × (c ≡ first_broken whole)
+  unfolding first_broken all_rules
+  breaks w = (
+    h.all ∙ ap (λ (b : Bool). b && all_rules rs) w.0,
+    w.1 ∙ sym (h.first ∙ ap (λ (b : Bool). pick b (first_broken rs) (cause k s)) w.0),
+  )
+
+-- The next ones, which another function checks.
+all-then : (xs ys : List Rule) → all_rules xs ≡ true → Past (xs ++ ys) ys
+unfolding first_broken all_rules
+all-then [] ys e = at-first ys
+all-then (x ∷ xs) ys e = go (all-then xs ys) x.holds refl
+  where
+    go : (all_rules xs ≡ true → Past (xs ++ ys) ys) → (b : Bool) → x.holds ≡ b → Past (x ∷ (xs ++ ys)) ys
+    go f true q = let t = f (rw q at e) in record { first = rw q t.first; all = rw q t.all }
+    go f false q = absurd (false≢true (rw q at e))
+
+one-then : (xs ys : List Rule) → all_rules xs ≡ false → (all_rules (xs ++ ys) ≡ false) × (first_broken xs ≡ first_broken (xs ++ ys))
+unfolding first_broken all_rules
+one-then [] ys e = absurd (false≢true (sym e))
+one-then (x ∷ xs) ys e = go (one-then xs ys) x.holds refl
+  where
+    go : (all_rules xs ≡ false → (all_rules (xs ++ ys) ≡ false) × (first_broken xs ≡ first_broken (xs ++ ys))) → (b : Bool) → x.holds ≡ b → (all_rules (x ∷ (xs ++ ys)) ≡ false) × (first_broken (x ∷ xs) ≡ first_broken (x ∷ (xs ++ ys)))
+    go f true q = rw q (f (rw q at e))
+    go f false q = rw q (refl, refl)
+
+module _ {whole : List Rule} (xs ys : List Rule) (h : Past whole (xs ++ ys)) where
+  pub part-on : all_rules xs ≡ true → Past whole ys
+  part-on e = let t = all-then xs ys e in record { first = h.first ∙ t.first; all = h.all ∙ t.all }
+
+  pub part-breaks : {c : Cause} → (all_rules xs ≡ false) × (c ≡ first_broken xs) → (all_rules whole ≡ false) × (c ≡ first_broken whole)
+  part-breaks w = let t = one-then xs ys w.0 in (h.all ∙ t.0, w.1 ∙ t.1 ∙ sym h.first)
+
+-- ---- what a rule answers, with its number put to the second place
+module _ {A : Type 0} (r : Result A ℕ) (P : A → Type 0) where
+  -- It is broken.
+  pub second-broken : {ok : Bool} {s : ℕ} (k : ℕ) {c : Cause} → MatchResult r P (λ v. (ok ≡ false) × (v ≡ s)) → (r ≡ Err c.second) × (c ≡ cause k c.second) → (ok ≡ false) × (c ≡ cause k s)
+  second-broken k a w = let b = rw w.0 at a in (b.0, w.1 ∙ ap (cause k) b.1)
+
+  -- It holds.
+  pub second-holds : (Q : ℕ → Type 0) {x : A} → MatchResult r P Q → r ≡ Ok x → P x
+  second-holds Q a e = rw e at a
+
+-- As the last rule of the chain.
+pub last-second : {whole : List Rule} (P : ℕ → Type 0) {k s : ℕ} {ok : Bool} → Past whole (rule_at k ok s ∷ []) → (r : Result ℕ ℕ) (q : Result ℕ Cause)
+    → MatchResult r (λ x. (ok ≡ true) × P x) (λ v. (ok ≡ false) × (v ≡ s)) → MatchResult q (λ x. r ≡ Ok x) (λ c. (r ≡ Err c.second) × (c ≡ cause k c.second)) → Checked whole P q
+last-second P {s = s} {ok = ok} h r (Ok x) a b =
+    let w = second-holds r (λ x. (ok ≡ true) × P x) (λ v. (ok ≡ false) × (v ≡ s)) a b in
+    (past-last (goes-on h w.0), w.1)
+last-second P {k = k} {ok = ok} h r (Err c) a b = breaks h (second-broken r (λ x. (ok ≡ true) × P x) k a b)
 
 -- A2, B1 and B2 ask nothing of a node that is neither expanded nor a target.
-pub nothing-asked : (m g : List ℕ) (n : ℕ) {kind : ℕ} → kind ≡ node_field (model_of m) g n 0 → (kind ≡ 1 → ⊥) → (kind ≡ 3 → ⊥) → cause 0 0 ≡ first_broken (reading_rules m g n)
-unfolding A2 B1 B2 first_broken
+pub nothing-asked : (m g : List ℕ) (n : ℕ) {kind : ℕ} → kind ≡ node_field (model_of m) g n 0 → (kind ≡ 1 → ⊥) → (kind ≡ 3 → ⊥) → all_rules (reading_rules m g n) ≡ true
+unfolding A2 B1 B2 all_rules
 nothing-asked m g n e a b = rw (ne_eqb (node_field (model_of m) g n 0) 1 (λ q. a (e ∙ q)), ne_eqb (node_field (model_of m) g n 0) 3 (λ q. b (e ∙ q))) refl
 
 -- Nor has it edges.

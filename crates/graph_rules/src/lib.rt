@@ -3,8 +3,8 @@
 
 #![tactic(auto)]
 
-ghost use Rattle.std.specs.Prelude.{◌≡◌, true, ◌+◌, ◌≤◌};
-ghost use Rattle.folder.specs.Table.{cause, first_broken, outcome};
+ghost use Rattle.std.specs.Prelude.{Ok, Err, ◌≡◌, true, false, ◌+◌, ◌≤◌, MatchResult};
+ghost use Rattle.folder.specs.Table.{cause, outcome};
 ghost use Rattle.model.specs.Model.{model_of};
 ghost use Rattle.model.specs.Valid.{Valid};
 ghost use Rattle.graph.specs.Limits.{most_nodes};
@@ -14,28 +14,33 @@ ghost use Rattle.graph.specs.Table.{node_rules, rule_rows, graph_rows, summary};
 ghost use Rattle.graph.specs.Valid.{RowsRight};
 ghost use Rattle.graph.specs.Walks.{starts_at};
 ghost use Rattle.expand.specs.Node.{NodeOf, Askable, FirstsOf, MasksOf};
-ghost use Rattle.graph_rules.specs.Ready.{RulesReady, reading_rules, cover_rules};
+ghost use Rattle.graph_rules.specs.Ready.{RulesReady, Checked, reading_rules};
 
 use expressions::MOST_EXPRESSIONS;
-use folder::{Cause, Outcome};
-use graph::{EXPANDED, MOST_NODES, Summary, TARGET};
+use folder::{Cause, Refusal};
+use graph::{COVERED, EXPANDED, MOST_NODES, Summary, TARGET, WAITING};
 use model::{MOST_COMMANDS, MOST_RECORDS};
 
-// Of a node: its first broken rule; and if none is broken, where the next node's edges start.
-#[derive(Clone, Copy)]
-struct Ruled {
-    broken: Cause,
-    next: usize,
-}
-
-fn ruling(number: usize, second: usize, next: usize) -> Ruled
-    ensures { (result.broken ≡ cause number second) × (result.next ≡ next) }
+// A rule that gives no second place.
+fn rule(number: usize, holds: bool) -> Result<(), Cause>
+    ensures { MatchResult result (λ _. holds ≡ true) (λ c. (holds ≡ false) × (c ≡ cause number 0)) }
 {
-    let broken = Cause { number, second };
-    Ruled { broken, next }
+    if holds {
+        Ok(())
+    } else {
+        Err(Cause { number, second: 0 })
+    }
 }
 
-// A2, B1 and B2 of a node that keeps A1, from the rows of its readings: the first broken one.
+// A rule that answers with the second place where it is broken.
+fn with_second<T>(number: usize, answer: Result<T, usize>) -> Result<T, Cause>
+    ensures { MatchResult result (λ x. answer ≡ Ok x) (λ c. (answer ≡ Err c.second) × (c ≡ cause number c.second)) }
+{
+    answer.map_err(|second| Cause { number, second })
+}
+
+// A2, B1 and B2 of a node that keeps A1, from the rows of its readings: where the next node's edges start, or the first
+// broken one.
 fn asked_rules(
     m: &[u8],
     g: &[u8],
@@ -45,35 +50,33 @@ fn asked_rules(
     masks: &[u16],
     state: &[i64],
     known: &mut [u8],
-) -> Ruled
+) -> Result<usize, Cause>
     requires askable { Askable m.now g.now n masks.now known.old state.now }
     requires at_value { at ≡ starts_at (model_of m.now) g.now n }
     requires firsts_of { FirstsOf m.now firsts.now }
-    ensures { (result.broken ≡ first_broken (reading_rules m.now g.now n)) × (result.broken.number ≡ 0 → result.next ≡ starts_at (model_of m.now) g.now (n + 1)) }
+    ensures { Checked (reading_rules m.now g.now n) (λ next. next ≡ starts_at (model_of m.now) g.now (n + 1)) result }
 {
-    let kept = expand::a2(m, g, n, masks, state, known);
-    if !kept.holds {
-        return ruling(19, kept.second, at);
-    }
-    if !expand::b1(m, g, n, at, state) {
-        return ruling(20, 0, at);
-    }
-    let followed = expand::b2(m, g, n, at, firsts, masks, state, known);
-    if followed.holds {
-        return ruling(0, 0, followed.next);
-    }
-    ruling(21, followed.second, at)
+    with_second(19, expand::a2(m, g, n, masks, state, known))?;
+    rule(20, expand::b1(m, g, n, at, state))?;
+    with_second(21, expand::b2(m, g, n, at, firsts, masks, state, known))
 }
 
 // The same, with the rows: what the entries are in the node's concrete state, and flags for those that read known in its
 // label.
-fn settled_rules(m: &[u8], g: &[u8], n: usize, at: usize, firsts: &[usize], masks: &[u16]) -> Ruled
+fn settled_rules(
+    m: &[u8],
+    g: &[u8],
+    n: usize,
+    at: usize,
+    firsts: &[usize],
+    masks: &[u16],
+) -> Result<usize, Cause>
     requires node_of { NodeOf m.now g.now n }
     requires n_value { A1 (model_of m.now) (simulation_of (model_of m.now) g.now) n ≡ true }
     requires at_value { at ≡ starts_at (model_of m.now) g.now n }
     requires firsts_of { FirstsOf m.now firsts.now }
     requires masks_of { MasksOf m.now masks.now }
-    ensures { (result.broken ≡ first_broken (reading_rules m.now g.now n)) × (result.broken.number ≡ 0 → result.next ≡ starts_at (model_of m.now) g.now (n + 1)) }
+    ensures { Checked (reading_rules m.now g.now n) (λ next. next ≡ starts_at (model_of m.now) g.now (n + 1)) result }
 {
     let mut known = [0u8; MOST_EXPRESSIONS];
     let mut state = [0i64; MOST_EXPRESSIONS];
@@ -84,57 +87,29 @@ fn settled_rules(m: &[u8], g: &[u8], n: usize, at: usize, firsts: &[usize], mask
 
 // A2, B1 and B2. They ask something of expanded and target nodes only: other labels are not read, and such nodes have no
 // edges.
-fn reading_rules(m: &[u8], g: &[u8], n: usize, at: usize, firsts: &[usize], masks: &[u16]) -> Ruled
+fn reading_rules(
+    m: &[u8],
+    g: &[u8],
+    n: usize,
+    at: usize,
+    firsts: &[usize],
+    masks: &[u16],
+) -> Result<usize, Cause>
     requires node_of { NodeOf m.now g.now n }
     requires n_value { A1 (model_of m.now) (simulation_of (model_of m.now) g.now) n ≡ true }
     requires at_value { at ≡ starts_at (model_of m.now) g.now n }
     requires firsts_of { FirstsOf m.now firsts.now }
     requires masks_of { MasksOf m.now masks.now }
-    ensures { (result.broken ≡ first_broken (reading_rules m.now g.now n)) × (result.broken.number ≡ 0 → result.next ≡ starts_at (model_of m.now) g.now (n + 1)) }
+    ensures { Checked (reading_rules m.now g.now n) (λ next. next ≡ starts_at (model_of m.now) g.now (n + 1)) result }
 {
     let size = graph::node_size(graph::variable_count(m));
-    let kind = folder::field(size, folder::body(g, 0), n, 0);
-    if kind == EXPANDED {
-        return settled_rules(m, g, n, at, firsts, masks);
-    }
-    if kind == TARGET {
-        return settled_rules(m, g, n, at, firsts, masks);
-    }
-    ruling(0, 0, at)
-}
-
-// C3, C1, C2 and the value rule: the number of the first broken one, or 0. None of them concerns one variable.
-fn cover_rules(
-    m: &[u8],
-    g: &[u8],
-    n: usize,
-    at: usize,
-    values: &[u32],
-    weights: &[usize],
-    firsts: &[usize],
-) -> usize
-    requires node_of { NodeOf m.now g.now n }
-    requires rules_ready { RulesReady m.now g.now values.now weights.now firsts.now }
-    requires at_value { at ≡ starts_at (model_of m.now) g.now n }
-    ensures { cause result 0 ≡ first_broken (cover_rules m.now g.now n) }
-{
-    if !labels::c3(m, g, n) {
-        return 22;
-    }
-    if !labels::c1(m, g, n) {
-        return 23;
-    }
-    if !labels::c2(m, g, n) {
-        return 24;
-    }
-    if labels::value_rule(m, g, values, weights, firsts, n, at) {
-        0
-    } else {
-        25
+    match folder::field(size, folder::body(g, 0), n, 0) {
+        EXPANDED | TARGET => settled_rules(m, g, n, at, firsts, masks),
+        _ => Ok(at),
     }
 }
 
-// All rules of node n.
+// All rules of node n, in the order of their numbers.
 fn node_rules(
     m: &[u8],
     g: &[u8],
@@ -144,22 +119,20 @@ fn node_rules(
     weights: &[usize],
     firsts: &[usize],
     masks: &[u16],
-) -> Ruled
+) -> Result<usize, Cause>
     requires node_of { NodeOf m.now g.now n }
     requires rules_ready { RulesReady m.now g.now values.now weights.now firsts.now }
     requires masks_of { MasksOf m.now masks.now }
     requires at_value { at ≡ starts_at (model_of m.now) g.now n }
-    ensures { (result.broken ≡ first_broken (node_rules (model_of m.now) (simulation_of (model_of m.now) g.now) n)) × (result.broken.number ≡ 0 → result.next ≡ starts_at (model_of m.now) g.now (n + 1)) }
+    ensures { Checked (node_rules (model_of m.now) (simulation_of (model_of m.now) g.now) n) (λ next. next ≡ starts_at (model_of m.now) g.now (n + 1)) result }
 {
-    if !labels::a1(m, g, n) {
-        return ruling(18, 0, at);
-    }
-    let reading = reading_rules(m, g, n, at, firsts, masks);
-    if reading.broken.number != 0 {
-        return reading;
-    }
-    let number = cover_rules(m, g, n, at, values, weights, firsts);
-    ruling(number, 0, reading.next)
+    rule(18, labels::a1(m, g, n))?;
+    let next = reading_rules(m, g, n, at, firsts, masks)?;
+    rule(22, labels::c3(m, g, n))?;
+    rule(23, labels::c1(m, g, n))?;
+    rule(24, labels::c2(m, g, n))?;
+    rule(25, labels::value_rule(m, g, values, weights, firsts, n, at))?;
+    Ok(next)
 }
 
 // The rules of all nodes, with the tables they look in.
@@ -170,28 +143,23 @@ fn all_nodes(
     weights: &[usize],
     firsts: &[usize],
     masks: &[u16],
-) -> Outcome
+) -> Result<(), Refusal>
     requires rules_ready { RulesReady m.now g.now values.now weights.now firsts.now }
     requires masks_of { MasksOf m.now masks.now }
     ensures { result ≡ outcome (rule_rows (model_of m.now) (simulation_of (model_of m.now) g.now)) }
 {
-    let nodes = graph::node_count(m, g);
-    let mut n = 0;
     let mut at = 0;
-    while n < nodes {
-        let ruled = node_rules(m, g, n, at, values, weights, firsts, masks);
-        let broken = ruled.broken;
-        if broken.number != 0 {
-            return folder::refuse_by(broken, n);
+    for n in 0..graph::node_count(m, g) {
+        match node_rules(m, g, n, at, values, weights, firsts, masks) {
+            Ok(next) => at = next,
+            Err(cause) => return folder::refuse_by(cause, n),
         }
-        at = ruled.next;
-        n += 1;
     }
-    Outcome::Accepted
+    Ok(())
 }
 
 // Rows 18 to 25 of a graph that keeps rows 12 to 17.
-fn check_nodes(m: &[u8], g: &[u8]) -> Outcome
+fn check_nodes(m: &[u8], g: &[u8]) -> Result<(), Refusal>
     requires valid { Valid m.now }
     requires rows_right { RowsRight (model_of m.now) g.now }
     ensures { result ≡ outcome (rule_rows (model_of m.now) (simulation_of (model_of m.now) g.now)) }
@@ -207,15 +175,12 @@ fn check_nodes(m: &[u8], g: &[u8]) -> Outcome
 }
 
 // Rows 12 to 25 of a graph of an accepted model.
-pub fn check_graph(m: &[u8], g: &[u8]) -> Outcome
+pub fn check_graph(m: &[u8], g: &[u8]) -> Result<(), Refusal>
     requires { Valid m.now }
     ensures { result ≡ outcome (graph_rows (model_of m.now) g.now) }
 {
-    let o = graph::check_rows(m, g);
-    match o {
-        Outcome::Refused(f) => Outcome::Refused(f),
-        Outcome::Accepted => check_nodes(m, g),
-    }
+    graph::check_rows(m, g)?;
+    check_nodes(m, g)
 }
 
 // What an accepted graph has.
@@ -224,17 +189,12 @@ pub fn summary_of(m: &[u8], g: &[u8]) -> Summary
     requires g_bound { node_count (model_of m.now) g.now ≤ most_nodes }
     ensures { result ≡ summary (simulation_of (model_of m.now) g.now) }
 {
-    let waiting = graph::kind_count(m, g, 0);
-    let expanded = graph::kind_count(m, g, 1);
-    let covered = graph::kind_count(m, g, 2);
-    let target = graph::kind_count(m, g, 3);
-    let root = root_value(m, g);
     Summary {
-        root,
-        waiting,
-        expanded,
-        covered,
-        target,
+        root: root_value(m, g),
+        waiting: graph::kind_count(m, g, WAITING),
+        expanded: graph::kind_count(m, g, EXPANDED),
+        covered: graph::kind_count(m, g, COVERED),
+        target: graph::kind_count(m, g, TARGET),
     }
 }
 

@@ -1,9 +1,9 @@
 -- The lowest node that waits, and the lowest that can cover it: what a scan finds in the records is what the building has.
 -- Assumes nothing.
+use Rattle.std.specs.Prelude.{Option, None, Some}
 use Prim.Native.Nat.{ℕ, ◌<◌, ◌≤◌}
 use mathlib.Core.Path.{◌≡◌, refl, sym, ap, ◌∙◌}
 use mathlib.Core.Bool.{true, false, not, false≢true, ◌&&◌}
-use mathlib.Core.Option.{Option, none, some}
 use mathlib.Core.List.{List}
 use native.Mathlib.Decide.{dec_lt}
 use native.Mathlib.Omega.{arith}
@@ -34,13 +34,13 @@ unfolding can_cover_in
 can-here m nodes nb n l k h = λ i. is_open (kind-here m nodes nb k h i) && contains-here m nodes nb n l k h i
 
 -- ---- kinds that wait
-kind-waits : (κ : Kind) (n : ℕ) → is_waiting κ ≡ true → waits κ n ≡ some n
+kind-waits : (κ : Kind) (n : ℕ) → is_waiting κ ≡ true → waits κ n ≡ Some n
 kind-waits Kind.waiting n h = refl
 kind-waits Kind.expanded n h = absurd (false≢true h)
 kind-waits Kind.covered n h = absurd (false≢true h)
 kind-waits Kind.target n h = absurd (false≢true h)
 
-kind-stands : (κ : Kind) (n : ℕ) → is_waiting κ ≡ false → waits κ n ≡ none
+kind-stands : (κ : Kind) (n : ℕ) → is_waiting κ ≡ false → waits κ n ≡ None
 kind-stands Kind.waiting n h = absurd (false≢true (sym h))
 kind-stands Kind.expanded n h = refl
 kind-stands Kind.covered n h = refl
@@ -61,7 +61,7 @@ module _ (m : List ℕ) (nodes : ℕ) (nb : List ℕ) where
   waits-here n l = ap is_waiting (kind-here m nodes nb n l)
 
   -- None is counted.
-  waiting_none : waiting_count (held_in m nodes nb) ≡ 0 → lowest_waiting (model_of m) (held_in m nodes nb) ≡ none
+  waiting_none : waiting_count (held_in m nodes nb) ≡ 0 → lowest_waiting (model_of m) (held_in m nodes nb) ≡ None
   unfolding lowest_waiting
   waiting_none e = first-nowhere (λ n. waits (B.kind n) n) nodes (λ i l. kind-stands (B.kind i) i (not-waiting (B.kind i) (none-waits B e i l)))
 
@@ -93,7 +93,7 @@ module _ (m : List ℕ) (nodes : ℕ) (nb : List ℕ) where
           go x (yes l) = absurd (false≢true (sym (e.below x.0 l) ∙ waits-by x.0 x.1 ∙ ap is_waiting x.2))
           go x (no d) = omega (arith, x.1)
 
-      pub waiting-some : r < nodes → lowest_waiting (model_of m) (held_in m nodes nb) ≡ some r
+      pub waiting-some : r < nodes → lowest_waiting (model_of m) (held_in m nodes nb) ≡ Some r
       unfolding lowest_waiting
       waiting-some l =
           first-here (λ n. waits (B.kind n) n) nodes r r l (λ j h. kind-stands (B.kind j) j (sym (waits-by j (omega arith)) ∙ e.below j h))
@@ -116,23 +116,23 @@ module _ (m : List ℕ) (nodes : ℕ) (nb : List ℕ) where
             can-here m nodes nb n l c k ∙ sym (ap (λ (v : ℕ). can_cover_in v nb n c) p)
             ∙ not-true (can_cover_in vars nb n c) ((found (λ i. not (can_cover_in vars nb n i)) nodes).before c (omega (arith, e)))
 
-        given-not : (c : ℕ) → c < r → c < nodes → given (can_cover (model_of m) B n c) (some c) ≡ none
+        given-not : (c : ℕ) → c < r → c < nodes → given (can_cover (model_of m) B n c) (Some c) ≡ None
         unfolding given
         given-not c h k = rw (covers-not c h k) refl
 
-        given_so : r < nodes → given (can_cover (model_of m) B n r) (some r) ≡ some r
+        given_so : r < nodes → given (can_cover (model_of m) B n r) (Some r) ≡ Some r
         unfolding given
         given_so k =
             rw (can-here m nodes nb n l r k ∙ sym (ap (λ (v : ℕ). can_cover_in v nb n r) p)
             ∙ not-false (can_cover_in vars nb n r) (ap (λ (i : ℕ). not (can_cover_in vars nb n i)) e ∙ (found (λ i. not (can_cover_in vars nb n i)) nodes).broken (omega (arith, e)))) refl
 
-        pub cover-none : nodes ≤ r → lowest_cover (model_of m) (held_in m nodes nb) n ≡ none
+        pub cover-none : nodes ≤ r → lowest_cover (model_of m) (held_in m nodes nb) n ≡ None
         unfolding lowest_cover
-        cover-none q = first-nowhere (λ c. given (can_cover (model_of m) B n c) (some c)) nodes (λ c h. given-not c (omega arith) h)
+        cover-none q = first-nowhere (λ c. given (can_cover (model_of m) B n c) (Some c)) nodes (λ c h. given-not c (omega arith) h)
 
-        pub cover-some : r < nodes → lowest_cover (model_of m) (held_in m nodes nb) n ≡ some r
+        pub cover-some : r < nodes → lowest_cover (model_of m) (held_in m nodes nb) n ≡ Some r
         unfolding lowest_cover
-        cover-some h = first-here (λ c. given (can_cover (model_of m) B n c) (some c)) nodes r r h (λ c k. given-not c k (omega arith)) (given_so h)
+        cover-some h = first-here (λ c. given (can_cover (model_of m) B n c) (Some c)) nodes r r h (λ c k. given-not c k (omega arith)) (given_so h)
 
 -- ---- what the searches ask, where a node waits
 module _ {m : List ℕ} {nodes : ℕ} {nb : List ℕ} (H : Held m nodes nb) {vars : ℕ} (p : vars ≡ variable_count m) (q : vars ≤ most_variables) (some-waits : waiting_count (held_in m nodes nb) ≡ 0 → ⊥) where
@@ -149,7 +149,7 @@ module _ {m : List ℕ} {nodes : ℕ} {nb : List ℕ} (H : Held m nodes nb) {var
 -- ---- what becomes of the lowest node that waits
 module _ (m : List ℕ) (nodes : ℕ) (nb : List ℕ) where
   -- None does.
-  pub grows_none : waiting_count (held_in m nodes nb) ≡ 0 → (P : Limit) → none ≡ onward (lowest_waiting (model_of m) (held_in m nodes nb)) (growth (model_of m) P (held_in m nodes nb))
+  pub grows_none : waiting_count (held_in m nodes nb) ≡ 0 → (P : Limit) → None ≡ onward (lowest_waiting (model_of m) (held_in m nodes nb)) (growth (model_of m) P (held_in m nodes nb))
   unfolding onward
   grows_none z P = rw (waiting_none m nodes nb z) refl
 
@@ -158,7 +158,7 @@ module _ (m : List ℕ) (nodes : ℕ) (nb : List ℕ) where
     there = waiting-within m nodes nb p e some-waits
 
     -- It has a cover.
-    pub grows-cover : c < nodes → some (cover_by n c) ≡ onward (lowest_waiting (model_of m) (held_in m nodes nb)) (growth (model_of m) P (held_in m nodes nb))
+    pub grows-cover : c < nodes → Some (cover_by n c) ≡ onward (lowest_waiting (model_of m) (held_in m nodes nb)) (growth (model_of m) P (held_in m nodes nb))
     unfolding onward ◌orelse◌
     grows-cover h = rw (waiting-some m nodes nb p e there, cover-some m nodes nb p n there k h) refl
 

@@ -1,10 +1,10 @@
 -- The next move: a repair that is found, or what becomes of the lowest node that waits; and what either leaves.
 -- Assumes nothing.
+use Rattle.std.specs.Prelude.{Option, None, Some}
 use Prim.Native.Nat.{ℕ, ◌<◌, ◌≤◌}
 use mathlib.Core.Path.{◌≡◌, refl, sym, ap, ◌∙◌, subst}
 use mathlib.Core.Logic.{◌⊎◌, inl, inr}
-use mathlib.Core.Bool.{Bool, true, false, false≢true}
-use mathlib.Core.Option.{Option, none, some}
+use mathlib.Core.Bool.{Bool, true, false}
 use mathlib.Core.List.{List}
 use native.Mathlib.Omega.{arith}
 use lib.ListN.{length}
@@ -14,83 +14,75 @@ use Rattle.expressions.specs.Meaning.{truth_in}
 use Rattle.model.specs.Model.{Model, model_of}
 use Rattle.model.specs.Valid.{Valid}
 use Rattle.graph.specs.Limits.{most_nodes}
-use Rattle.building.specs.First.{◌orelse◌, there, given, onward, first}
+use Rattle.building.specs.First.{◌orelse◌, given, onward, first}
 use Rattle.building.specs.Building.{Building}
 use Rattle.building.specs.Length.{graph_length, waiting_count}
 use Rattle.building.specs.Moves.{Limit, Move, track, adopt, drop, cover_by, reach, expand, truth_wants, expanded_wants, covered, adopted, repair_as, repair, waits, lowest_waiting, lowest_cover, room, opening, growth, next_move}
 use Rattle.building.specs.Kept.{Kept, Mended}
-use Rattle.building.specs.Working.{ReadRight, ParentRight, Settled, HintRight, MarkRight, NextRight}
+use Rattle.building.specs.Working.{ReadRight, HintRight, MarkRight, NextRight}
 use Rattle.building.proofs.FirstLaws.{nothing, orelse-some, given-some, first-none, first-least, first_some, onward-some}
 use Rattle.put.proofs.PutLaws.{stays-both}
 use Rattle.held.specs.Held.{parent_field, read_field, hint_field, held_in}
 use Rattle.nodes.proofs.Expanded.{variables-some}
-use Rattle.wants.specs.Standing.{read_in, parent_in, hint_in, row_in, Held, Standing, Reread, node_of}
+use Rattle.wants.specs.Standing.{read_in, hint_in, row_in, Held, Reread, node_of}
 use Rattle.work.specs.declared.Work.{Work}
 use Rattle.work.specs.Working.{graph_in, Lent, Looked, ToRepair, ToGrow, ToMake}
 use Rattle.growth.specs.Hints.{HintsSettled}
 
 -- ---- what is there
-some_same : {A : Type 0} {a b : A} → some a ≡ some b → a ≡ b
+some_same : {A : Type 0} {a b : A} → Some a ≡ Some b → a ≡ b
 some_same e = cc
-
-there-some : {A : Type 0} (o : Option A) → there o ≡ true → (a : A) × (o ≡ some a)
-there-some none h = absurd (false≢true h)
-there-some (some a) h = (a, refl)
-
-there-none : {A : Type 0} (o : Option A) → there o ≡ false → o ≡ none
-there-none none h = refl
-there-none (some a) h = absurd (false≢true (sym h))
 
 -- ---- which moves repair node n, and which grow it
 module _ (T : Move → Type 0) {mv : Move} (n : ℕ) where
-  told-so : {o : Move} → T o → some o ≡ some mv → T mv
+  told-so : {o : Move} → T o → Some o ≡ Some mv → T mv
   told-so t e = subst T (some_same e) t
 
   module _ (tracks : (v : ℕ) → T (track n v)) where
-    wanted : (o : Option ℕ) → onward o (λ v. some (track n v)) ≡ some mv → T mv
+    wanted : (o : Option ℕ) → onward o (λ v. Some (track n v)) ≡ Some mv → T mv
     wanted o e =
-        let p = onward-some o (λ v. some (track n v)) mv e in
+        let p = onward-some o (λ v. Some (track n v)) mv e in
         told-so (tracks p.0) p.2
 
     module _ (adopts : T (adopt n)) (drops : T (drop n)) where
-      fault : (a b : Bool) → pick a (pick b none (some (adopt n))) (some (drop n)) ≡ some mv → T mv
+      fault : (a b : Bool) → pick a (pick b None (Some (adopt n))) (Some (drop n)) ≡ Some mv → T mv
       fault true true e = nothing e
       fault true false e = told-so adopts e
       fault false b e = told-so drops e
 
-      pub repair-moves : (M : Model) (B : Building) (κ : Kind) → repair_as M B n κ ≡ some mv → T mv
+      pub repair-moves : (M : Model) (B : Building) (κ : Kind) → repair_as M B n κ ≡ Some mv → T mv
       repair-moves M B Kind.waiting e = nothing e
       repair-moves M B Kind.expanded e = wanted (expanded_wants M B n) e
       repair-moves M B Kind.covered e = fault (covered M B n) (adopted M B n) e
       repair-moves M B Kind.target e = wanted (truth_wants M B n M.target) e
 
   module _ (covers : (c : ℕ) → T (cover_by n c)) (reaches : T (reach n)) (expands : T (expand n)) where
-    opened : (a b : Bool) → pick a (some (reach n)) (given b (some (expand n))) ≡ some mv → T mv
+    opened : (a b : Bool) → pick a (Some (reach n)) (given b (Some (expand n))) ≡ Some mv → T mv
     opened true b e = told-so reaches e
-    opened false b e = told-so expands (given-some b (some (expand n)) mv e).1
+    opened false b e = told-so expands (given-some b (Some (expand n)) mv e).1
 
-    pub growth-moves : (M : Model) (P : Limit) (B : Building) → growth M P B n ≡ some mv → T mv
+    pub growth-moves : (M : Model) (P : Limit) (B : Building) → growth M P B n ≡ Some mv → T mv
     unfolding opening
-    growth-moves M P B e = go (orelse-some (onward (lowest_cover M B n) (λ c. some (cover_by n c))) (opening M P B n) mv e)
+    growth-moves M P B e = go (orelse-some (onward (lowest_cover M B n) (λ c. Some (cover_by n c))) (opening M P B n) mv e)
       where
-        go : (onward (lowest_cover M B n) (λ c. some (cover_by n c)) ≡ some mv) ⊎ (opening M P B n ≡ some mv) → T mv
+        go : (onward (lowest_cover M B n) (λ c. Some (cover_by n c)) ≡ Some mv) ⊎ (opening M P B n ≡ Some mv) → T mv
         go (inl h) =
-            let p = onward-some (lowest_cover M B n) (λ c. some (cover_by n c)) mv h in
+            let p = onward-some (lowest_cover M B n) (λ c. Some (cover_by n c)) mv h in
             told-so (covers p.0) p.2
         go (inr h) = opened (truth_in M.entries (B.state n) M.target) (room M P B n) h
 
 -- A kind that waits is there.
-waits-so : (κ : Kind) (n : ℕ) → κ ≡ Kind.waiting → waits κ n ≡ none → ⊥
+waits-so : (κ : Kind) (n : ℕ) → κ ≡ Kind.waiting → waits κ n ≡ None → ⊥
 waits-so κ n k e = nothing (sym e ∙ ap (λ (x : Kind). waits x n) k)
 
-waits-own : (κ : Kind) (n k : ℕ) → waits κ n ≡ some k → n ≡ k
+waits-own : (κ : Kind) (n k : ℕ) → waits κ n ≡ Some k → n ≡ k
 waits-own Kind.waiting n k e = some_same e
 waits-own Kind.expanded n k e = nothing e
 waits-own Kind.covered n k e = nothing e
 waits-own Kind.target n k e = nothing e
 
 -- No node below the lowest that waits does.
-pub next-right : (M : Model) (B : Building) (n : ℕ) → lowest_waiting M B ≡ some n → NextRight M B n
+pub next-right : (M : Model) (B : Building) (n : ℕ) → lowest_waiting M B ≡ Some n → NextRight M B n
 unfolding lowest_waiting
 next-right M B n e =
     let p = first-least B.nodes (λ i. waits (B.kind i) i) n e in
@@ -105,30 +97,16 @@ module _ {m : List ℕ} {old new : List ℕ} where
   pub lent_still : {longest : ℕ} {w : Work} → graph_in m w new ≡ graph_in m w old → length new ≡ length old → Lent m longest w old → Lent m longest w new
   lent_still e l L = record { counted = L.counted ∙ ap (graph_length (model_of m)) (sym e); short = L.short; lent = omega (arith, L.lent); limit = L.limit }
 
--- ---- the search for a repair, by the numbers that it is handed
--- What it asks.
-pub repair-asked : {m masks nb : List ℕ} {mark : ℕ → ℕ} {long n f l h nodes fresh low high : ℕ} → (nodes ≡ n) × (fresh ≡ f) × (low ≡ l) × (high ≡ h)
-    → Standing m masks n nb → ParentRight (model_of m) (held_in m n nb) (parent_in m nb) → Settled (model_of m) (held_in m n nb) f → MarkRight (model_of m) (held_in m n nb) mark l h
-    → (l ≤ h) × (h ≤ n) × (most_nodes ≤ long)
-    → Standing m masks nodes nb × (ParentRight (model_of m) (held_in m nodes nb) (parent_in m nb) × (Settled (model_of m) (held_in m nodes nb) fresh
-    × (MarkRight (model_of m) (held_in m nodes nb) mark low high × ((low ≤ high) × (high ≤ nodes) × (most_nodes ≤ long)))))
-repair-asked e S P F R W = rw (e.0, e.1, e.2, e.3) (S, (P, (F, (R, W))))
-
+-- ---- the search for a repair
 -- What it leaves.
 pub record Found (m : List ℕ) (w : Work) (nb new marks : List ℕ) (o : Option Move) : Type 0 where
   pub is : o ≡ first w.nodes (repair (model_of m) (graph_in m w nb))
   pub reread : Reread m w.nodes nb new
   pub marked : MarkRight (model_of m) (graph_in m w new) (row_in marks) (node_of w.high o) w.high
 
-pub found-by : {m nb new marks : List ℕ} {w : Work} {o : Option Move} {nodes fresh low high : ℕ} → (nodes ≡ w.nodes) × (fresh ≡ w.fresh) × (low ≡ w.low) × (high ≡ w.high)
-    → (o ≡ first nodes (repair (model_of m) (held_in m nodes nb))) × (Reread m nodes nb new × MarkRight (model_of m) (held_in m nodes new) (row_in marks) (node_of high o) high)
-    → Found m w nb new marks o
-found-by e x =
-    let g = rw (e.0, e.3) at x in
-    record { is = g.0; reread = g.1.0; marked = g.1.1 }
-
-pub reread-by : {m nb new : List ℕ} {n nodes : ℕ} → nodes ≡ n → Reread m nodes nb new → Reread m n nb new
-reread-by e x = rw e at x
+pub found-by : {m nb new marks : List ℕ} (w : Work) {o : Option Move} → o ≡ first w.nodes (repair (model_of m) (graph_in m w nb)) → Reread m w.nodes nb new
+    → MarkRight (model_of m) (graph_in m w new) (row_in marks) (node_of w.high o) w.high → Found m w nb new marks o
+found-by w a b c = record { is = a; reread = b; marked = c }
 
 -- ---- after it, by what it has changed
 module _ {m nb new : List ℕ} {n : ℕ} (valid : Valid m) (R : Reread m n nb new) where
@@ -173,19 +151,16 @@ module _ {m nb new marks : List ℕ} {w : Work} {o : Option Move} (F : Found m w
   R = F.reread
 
   -- ---- a repair is found
-  module _ {t : Bool} (e : t ≡ there o) (h : t ≡ true) (valid : Valid m) (H : HintRight (model_of m) (graph_in m w nb) (hint_in m nb) w.fresh) where
-    own : (mv : Move) × (o ≡ some mv)
-    own = there-some o (sym e ∙ h)
-
+  module _ {found : Move} (own : o ≡ Some found) (valid : Valid m) (H : HintRight (model_of m) (graph_in m w nb) (hint_in m nb) w.fresh) where
     repair-is : (P : Limit) → o ≡ next_move M P (graph_in m w nb)
     unfolding next_move ◌orelse◌
-    repair-is P = own.1 ∙ rw (sym F.is ∙ own.1) refl
+    repair-is P = own ∙ rw (sym F.is ∙ own) refl
 
-    made : (mv : Move) → first w.nodes (repair M (graph_in m w nb)) ≡ some mv → MarkRight M (graph_in m w new) (row_in marks) (node_of w.high (some mv)) w.high → ToMake m w new marks (some mv)
+    made : (mv : Move) → first w.nodes (repair M (graph_in m w nb)) ≡ Some mv → MarkRight M (graph_in m w new) (row_in marks) (node_of w.high (Some mv)) w.high → ToMake m w new marks (Some mv)
     made a q =
         let p = first_some w.nodes (repair M (graph_in m w nb)) a q in
         let to : (n : ℕ) → MarkRight M (graph_in m w new) (row_in marks) n w.high → ToRepair m w new marks n = λ n x. record { hints = hints-still valid R H; marked = x } in
-        repair-moves (λ (x : Move). MarkRight M (graph_in m w new) (row_in marks) (node_of w.high (some x)) w.high → ToMake m w new marks (some x)) p.0
+        repair-moves (λ (x : Move). MarkRight M (graph_in m w new) (row_in marks) (node_of w.high (Some x)) w.high → ToMake m w new marks (Some x)) p.0
         (λ v. to p.0) (to p.0) (to p.0) M (graph_in m w nb) ((graph_in m w nb).kind p.0) p.2
 
     pub repaired : (P : Limit) → (o ≡ next_move (model_of m) P (graph_in m w nb)) × (Looked m w nb new × ToMake m w new marks o)
@@ -193,17 +168,14 @@ module _ {m nb new marks : List ℕ} {w : Work} {o : Option Move} (F : Found m w
       repair-is P,
       (
         record { held = R.held; read = R.read; parents = λ i. R.others i parent_field (omega arith) (λ q. omega arith); stays = R.stays },
-        subst (λ (x : Option Move). ToMake m w new marks x) (sym own.1)
-            (made own.0 (sym F.is ∙ own.1) (subst (λ (x : Option Move). MarkRight M (graph_in m w new) (row_in marks) (node_of w.high x) w.high) own.1 F.marked)),
+        subst (λ (x : Option Move). ToMake m w new marks x) (sym own)
+            (made found (sym F.is ∙ own) (subst (λ (x : Option Move). MarkRight M (graph_in m w new) (row_in marks) (node_of w.high x) w.high) own F.marked)),
       ),
     )
 
   -- ---- none is found, and the hints are settled
-  module _ {t : Bool} (e : t ≡ there o) (h : t ≡ false) {last : List ℕ} (S : HintsSettled m w new last) where
-    no-repair : o ≡ none
-    no-repair = there-none o (sym e ∙ h)
-
-    first-no : first w.nodes (repair M (graph_in m w nb)) ≡ none
+  module _ (no-repair : o ≡ None) {last : List ℕ} (S : HintsSettled m w new last) where
+    first-no : first w.nodes (repair M (graph_in m w nb)) ≡ None
     first-no = sym F.is ∙ no-repair
 
     same : graph_in m w last ≡ graph_in m w nb
@@ -227,11 +199,11 @@ module _ {m nb new marks : List ℕ} {w : Work} {o : Option Move} (F : Found m w
       next-is = rw first-no grown-is
 
       grown : NextRight M (graph_in m w nb) w.next → (x : Option Move) → q ≡ x → ToMake m w last marks x
-      grown N none z = to-grow w.next N
-      grown N (some mv) z =
+      grown N None z = to-grow w.next N
+      grown N (Some mv) z =
           let p = onward-some (lowest_waiting M (graph_in m w nb)) (growth M P (graph_in m w nb)) mv (sym grown-is ∙ z) in
           let G = to-grow p.0 (next-right M (graph_in m w nb) p.0 p.1) in
-          growth-moves (λ (x : Move). ToMake m w last marks (some x)) p.0 (λ c. G) G G M P (graph_in m w nb) p.2
+          growth-moves (λ (x : Move). ToMake m w last marks (Some x)) p.0 (λ c. G) G G M P (graph_in m w nb) p.2
 
       pub grown-next : NextRight (model_of m) (graph_in m w nb) w.next → (q ≡ next_move (model_of m) P (graph_in m w nb)) × (Looked m w nb last × ToMake m w last marks q)
       grown-next N = (next-is, (looked-both R S, grown N q refl))

@@ -1,9 +1,9 @@
 -- What becomes of a node that waits and has no cover, by the row of what the entries are in its state.
 -- Assumes nothing.
+use Rattle.std.specs.Prelude.{Option, None, Some}
 use Prim.Native.Nat.{ℕ, ◌+◌, ◌*◌, ◌<◌, ◌≤◌}
 use mathlib.Core.Path.{◌≡◌, refl, sym, ap, ◌∙◌}
 use mathlib.Core.Bool.{Bool, true, false}
-use mathlib.Core.Option.{Option, none, some}
 use mathlib.Core.List.{List}
 use native.Mathlib.Omega.{arith}
 use borrow.Author.Tests.{le-leb, lt-leb}
@@ -54,7 +54,7 @@ module _ {m nb : List ℕ} {longest : ℕ} {w : Work} {n : ℕ} (H : Held m w.no
         ∙ truth-back (truth_in M.entries (state_in m nb n) M.target)
         ∙ ap (λ (s : State). truth_in M.entries s M.target) (sym here)
 
-    pub opening-reach : t ≡ true → some (reach n) ≡ opening M (limit_of longest) B n
+    pub opening-reach : t ≡ true → Some (reach n) ≡ opening M (limit_of longest) B n
     unfolding opening
     opening-reach h = rw (sym target_is ∙ h) refl
 
@@ -71,7 +71,7 @@ module _ {m nb : List ℕ} {longest : ℕ} {w : Work} {n : ℕ} (H : Held m w.no
       bytes-is : bytes ≡ edges_length M (B.state n)
       bytes-is = y ∙ (λ i. edges_in (f i) row (commands-are i)) ∙ edges-is H.model stated ∙ ap (edges_length M) (sym here)
 
-      by-room : opening M (limit_of longest) B n ≡ given (room M (limit_of longest) B n) (some (expand n))
+      by-room : opening M (limit_of longest) B n ≡ given (room M (limit_of longest) B n) (Some (expand n))
       unfolding opening
       by-room = rw (sym target_is ∙ off) refl
 
@@ -79,13 +79,13 @@ module _ {m nb : List ℕ} {longest : ℕ} {w : Work} {n : ℕ} (H : Held m w.no
       unfolding given
       given-true h = rw h refl
 
-      given-false : {b : Bool} (o : Option Move) → b ≡ false → none ≡ given b o
+      given-false : {b : Bool} (o : Option Move) → b ≡ false → None ≡ given b o
       unfolding given
       given-false o h = rw h refl
 
-      pub opening-many : most_nodes < w.nodes + born → none ≡ opening M (limit_of longest) B n
+      pub opening-many : most_nodes < w.nodes + born → None ≡ opening M (limit_of longest) B n
       opening-many h =
-          given-false (some (expand n)) (rw (lt-leb (B.nodes + births M (B.state n)) most_nodes (omega (arith, born-is))) refl) ∙ sym by-room
+          given-false (Some (expand n)) (rw (lt-leb (B.nodes + births M (B.state n)) most_nodes (omega (arith, born-is))) refl) ∙ sym by-room
 
       module _ (few : w.nodes + born ≤ most_nodes) {vars size : ℕ} (u : vars ≡ variable_count m) (v : size ≡ node_size vars) where
         size_is : size ≡ node_size M.variables
@@ -98,8 +98,8 @@ module _ {m nb : List ℕ} {longest : ℕ} {w : Work} {n : ℕ} (H : Held m w.no
         few-is : leb (B.nodes + births M (B.state n)) most_nodes ≡ true
         few-is = le-leb (B.nodes + births M (B.state n)) most_nodes (omega (arith, born-is))
 
-        pub opening-expand : w.len + (size * born + bytes) ≤ longest → some (expand n) ≡ opening M (limit_of longest) B n
+        pub opening-expand : w.len + (size * born + bytes) ≤ longest → Some (expand n) ≡ opening M (limit_of longest) B n
         opening-expand h = given-true (rw (few-is, le-leb (length_with M B n) longest (omega (arith, length-is))) refl) ∙ sym by-room
 
-        pub opening-long : longest < w.len + (size * born + bytes) → none ≡ opening M (limit_of longest) B n
-        opening-long h = given-false (some (expand n)) (rw (few-is, lt-leb (length_with M B n) longest (omega (arith, length-is))) refl) ∙ sym by-room
+        pub opening-long : longest < w.len + (size * born + bytes) → None ≡ opening M (limit_of longest) B n
+        opening-long h = given-false (Some (expand n)) (rw (few-is, lt-leb (length_with M B n) longest (omega (arith, length-is))) refl) ∙ sym by-room

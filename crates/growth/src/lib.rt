@@ -2,7 +2,7 @@
 
 #![tactic(auto)]
 
-ghost use Rattle.std.specs.Prelude.{◌≡◌, ◌<◌, ◌≤◌, length};
+ghost use Rattle.std.specs.Prelude.{◌≡◌, ◌<◌, ◌≤◌, length, option_map};
 ghost use Rattle.model.specs.Model.{model_of};
 ghost use Rattle.graph.specs.Limits.{most_nodes};
 ghost use Rattle.building.specs.First.{onward};
@@ -17,51 +17,52 @@ ghost use Rattle.growth.specs.Hints.{HintsSettled};
 use expressions::MOST_EXPRESSIONS;
 use graph::MOST_NODES;
 use nodes::Move;
-use repairs::Marks;
 use work::Work;
 
 // The lowest waiting node n has no cover: it becomes a target, or it is expanded if there is room.
-fn opening_of(m: &[u8], nb: &[u8], longest: usize, w: Work, n: usize) -> Move
+fn opening_of(m: &[u8], nb: &[u8], longest: usize, w: Work, n: usize) -> Option<Move>
     requires held { Held m.now w.nodes nb.now }
     requires lent { Lent m.now longest w nb.now }
     requires n_lt_nodes { n < w.nodes }
-    ensures { told result ≡ opening (model_of m.now) (limit_of longest) (graph_in m.now w nb.now) n }
+    ensures { option_map told result ≡ opening (model_of m.now) (limit_of longest) (graph_in m.now w nb.now) n }
 {
     let mut state = [0i64; MOST_EXPRESSIONS];
     wants::state_of(m, nb, n, &mut state);
     let target = folder::field(4, folder::body(m, 0), 0, 1);
     if whole::equal(evaluate::value_at(&state, target), 1) {
-        return Move::Reach(n);
+        return Some(Move::Reach(n));
     }
     let cs = folder::body(m, 3);
     let cost = nodes::cost_of(cs, &state, folder::count_of(4, cs));
     let size = graph::node_size(graph::variable_count(m));
-    if w.nodes + cost.births <= MOST_NODES {
-        if w.len + (size * cost.births + cost.bytes) <= longest {
-            return Move::Expand(n);
-        }
-        return Move::Nothing;
+    let count = w.nodes + cost.births;
+    if count > MOST_NODES {
+        return None;
     }
-    Move::Nothing
+    let len = w.len + (size * cost.births + cost.bytes);
+    if len > longest {
+        return None;
+    }
+    Some(Move::Expand(n))
 }
 
 // What becomes of the lowest node that waits.
-fn growth_of(m: &[u8], nb: &[u8], longest: usize, w: Work) -> Move
+fn growth_of(m: &[u8], nb: &[u8], longest: usize, w: Work) -> Option<Move>
     requires held { Held m.now w.nodes nb.now }
     requires lent { Lent m.now longest w nb.now }
     requires hint_right { HintRight (model_of m.now) (graph_in m.now w nb.now) (hint_in m.now nb.now) w.nodes }
     requires next_right { NextRight (model_of m.now) (graph_in m.now w nb.now) w.next }
     requires next_le_nodes { (w.next ≤ w.nodes) × (w.waiting ≡ waiting_count (graph_in m.now w nb.now)) }
-    ensures { told result ≡ onward (lowest_waiting (model_of m.now) (graph_in m.now w nb.now)) (growth (model_of m.now) (limit_of longest) (graph_in m.now w nb.now)) }
+    ensures { option_map told result ≡ onward (lowest_waiting (model_of m.now) (graph_in m.now w nb.now)) (growth (model_of m.now) (limit_of longest) (graph_in m.now w nb.now)) }
 {
     if w.waiting == 0 {
-        return Move::Nothing;
+        return None;
     }
     let vars = graph::variable_count(m);
     let n = covers::lowest_waiting(vars, nb, w.next);
     let c = covers::lowest_cover(vars, nb, w.nodes, n);
     if c < w.nodes {
-        return Move::Cover(n, c);
+        return Some(Move::Cover(n, c));
     }
     opening_of(m, nb, longest, w, n)
 }
@@ -77,17 +78,6 @@ fn settle_hints(m: &[u8], nb: &mut [u8], w: Work)
     }
 }
 
-fn marks_of(w: Work) -> Marks
-    ensures { (result.nodes ≡ w.nodes) × (result.fresh ≡ w.fresh) × (result.low ≡ w.low) × (result.high ≡ w.high) }
-{
-    Marks {
-        nodes: w.nodes,
-        fresh: w.fresh,
-        low: w.low,
-        high: w.high,
-    }
-}
-
 // The next move: a repair of the lowest node that has a broken rule; else what becomes of the lowest node that waits.
 pub fn next_move(
     m: &[u8],
@@ -96,7 +86,7 @@ pub fn next_move(
     marks: &mut [u8],
     longest: usize,
     w: Work,
-) -> Move
+) -> Option<Move>
     requires standing { Standing m.now masks.now w.nodes nb.old }
     requires lent { Lent m.now longest w nb.old }
     requires parent_right { ParentRight (model_of m.now) (graph_in m.now w nb.old) (parent_in m.now nb.old) }
@@ -105,13 +95,12 @@ pub fn next_move(
     requires mark_right { MarkRight (model_of m.now) (graph_in m.now w nb.old) (row_in marks.old) w.low w.high }
     requires next_right { NextRight (model_of m.now) (graph_in m.now w nb.old) w.next }
     requires low_le_high { (w.low ≤ w.high) × (w.high ≤ w.nodes) × (w.next ≤ w.nodes) × (most_nodes ≤ length marks.old) × (w.waiting ≡ waiting_count (graph_in m.now w nb.old)) }
-    ensures result_value { told result ≡ next_move (model_of m.now) (limit_of longest) (graph_in m.now w nb.old) }
+    ensures result_value { option_map told result ≡ next_move (model_of m.now) (limit_of longest) (graph_in m.now w nb.old) }
     ensures looked { Looked m.now w nb.old nb.new }
-    ensures to_make { ToMake m.now w nb.new marks.new (told result) }
+    ensures to_make { ToMake m.now w nb.new marks.new (option_map told result) }
 {
-    let r = repairs::first_repair(m, nb, masks, marks, marks_of(w));
-    if repairs::is_move(r) {
-        return r;
+    if let Some(mv) = repairs::first_repair(m, nb, masks, marks, w) {
+        return Some(mv);
     }
     settle_hints(m, nb, w);
     growth_of(m, nb, longest, w)

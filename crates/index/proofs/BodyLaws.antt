@@ -8,7 +8,6 @@ use lib.ListN.{length}
 use lib.IntN.{ℤ}
 use Rattle.folder.specs.Contents.{body}
 use Rattle.folder.specs.Tab.{fill}
-use Rattle.folder.specs.declared.Outcome.TheVariants.{Accepted}
 use Rattle.model.specs.Layout.{variable_count}
 use Rattle.model.specs.Model.{Model, model_of}
 use Rattle.model.proofs.Limits.{limits}
@@ -21,6 +20,7 @@ use Rattle.slots.specs.Nodes.{label_in, Hashed}
 use Rattle.index.specs.Twins.{state_at}
 use Rattle.index.specs.Index.{shared, index_slots, answers_of, listing_of}
 use Rattle.index.specs.Ready.{nodes_in, lowest_in, twins_in, Indexed}
+use Rattle.std.specs.Prelude.{Ok}
 
 module _ (m g : List ℕ) {vars : ℕ} {nb : List ℕ} (v : vars ≡ variable_count m) (b : nb ≡ body g 0) where
   abbrev M : Model
@@ -48,11 +48,11 @@ module _ (m g : List ℕ) {vars : ℕ} {nb : List ℕ} (v : vars ≡ variable_co
   pub listing-fits : (l : List ℕ) → node_count M g ≤ length l → nodes_in vars nb ≤ length l
   listing-fits l h = omega (arith, nodes-are)
 
-  pub answers-are : (batch : List ℤ) (row₀ : List ℕ) {row : List ℕ} → row ≡ fill (length batch / vars) (λ k. lowest_in vars nb (state_at vars batch k)) row₀ → row ≡ answers_of M G Accepted batch row₀
+  pub answers-are : (batch : List ℤ) (row₀ : List ℕ) {row : List ℕ} → row ≡ fill (length batch / vars) (λ k. lowest_in vars nb (state_at vars batch k)) row₀ → row ≡ answers_of M G (Ok tt) batch row₀
   answers-are batch row₀ e = rw (v, b) at e
 
   pub shared-are : {n : ℕ} → n ≡ length (twins_in vars nb (nodes_in vars nb)) → n ≡ length (shared M G)
   shared-are e = rw (v, b) at e
 
-  pub listing-are : (row₀ : List ℕ) {row : List ℕ} → row ≡ over (twins_in vars nb (nodes_in vars nb)) row₀ → row ≡ listing_of M G Accepted row₀
+  pub listing-are : (row₀ : List ℕ) {row : List ℕ} → row ≡ over (twins_in vars nb (nodes_in vars nb)) row₀ → row ≡ listing_of M G (Ok tt) row₀
   listing-are row₀ e = rw (v, b) at e

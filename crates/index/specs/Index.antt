@@ -1,11 +1,10 @@
 -- Request 2.1: the index call. Row 34 after the graph's, the answer, and the content of each row.
 -- Assumes nothing.
-use Rattle.std.specs.Prelude.{ℕ, ◌/◌, ◌%◌, ◌≤◌, ◌≡◌, Bool, not, List, [], ◌∷◌, ◌++◌, length, leb, eqb, ℤ}
+use Rattle.std.specs.Prelude.{ℕ, ◌/◌, ◌%◌, ◌≤◌, ◌≡◌, Bool, not, List, [], ◌∷◌, ◌++◌, length, leb, eqb, ℤ, Err, Ok, Result}
+use Rattle.folder.specs.declared.Refusal.{Refusal}
 use Rattle.folder.specs.Pick.{pick}
 use Rattle.folder.specs.Tab.{fill}
-use Rattle.folder.specs.Table.{places, no_places, Row, row, outcome}
-use Rattle.folder.specs.declared.Outcome.{Outcome}
-use Rattle.folder.specs.declared.Outcome.TheVariants as O
+use Rattle.folder.specs.Table.{places, no_places, Row, row, outcome, Outcome}
 use Rattle.model.specs.Model.{Model, model_of}
 use Rattle.model.specs.Table.{model_rows}
 use Rattle.graph.specs.Limits.{slot_count}
@@ -16,8 +15,10 @@ use Rattle.graph.specs.Table.{graph_rows}
 use Rattle.graph.specs.Figures.{over}
 use Rattle.slots.specs.Slots.{slots_after, lowest}
 use Rattle.index.specs.Twins.{twins, state_at}
-use Rattle.index.specs.declared.IndexAnswer.{IndexAnswer}
-use Rattle.index.specs.declared.IndexAnswer.TheVariants.{Accepted, Refused}
+
+-- How many nodes are listed, or the refusal.
+abbrev pub IndexAnswer : Type 0
+IndexAnswer = Result ℕ Refusal
 
 module _ (M : Model) (G : Simulation) where
   abbrev pub uncovered : ℕ → Bool
@@ -60,20 +61,20 @@ module _ (M : Model) (G : Simulation) where
 
   -- The rows at exit, and how many nodes are listed. Refused, all rows stay.
   abbrev pub slots_of : Outcome → List ℕ → List ℕ
-  slots_of O.Accepted slots = index_slots
-  slots_of (O.Refused f) slots = slots
+  slots_of (Ok _) slots = index_slots
+  slots_of (Err f) slots = slots
 
   abbrev pub answers_of : Outcome → List ℤ → List ℕ → List ℕ
-  answers_of O.Accepted batch answers = fill (states batch) (answer_to batch) answers
-  answers_of (O.Refused f) batch answers = answers
+  answers_of (Ok _) batch answers = fill (states batch) (answer_to batch) answers
+  answers_of (Err f) batch answers = answers
 
   abbrev pub listing_of : Outcome → List ℕ → List ℕ
-  listing_of O.Accepted listing = over shared listing
-  listing_of (O.Refused f) listing = listing
+  listing_of (Ok _) listing = over shared listing
+  listing_of (Err f) listing = listing
 
   abbrev pub answer_of : Outcome → IndexAnswer
-  answer_of O.Accepted = Accepted (length shared)
-  answer_of (O.Refused f) = Refused f
+  answer_of (Ok _) = Ok (length shared)
+  answer_of (Err f) = Err f
 
 module _ (m g : List ℕ) (slots : List ℕ) (batch : List ℤ) (answers listing : List ℕ) where
   unfoldable pub index_outcome : Outcome
@@ -94,13 +95,13 @@ module _ (m g : List ℕ) (slots : List ℕ) (batch : List ℤ) (answers listing
 
 -- The number of an answer, its two places, and how many nodes are listed: 0 where there is none.
 abbrev pub index_number : IndexAnswer → ℕ
-index_number (Accepted n) = 0
-index_number (Refused f) = f.number
+index_number (Ok n) = 0
+index_number (Err f) = f.number
 
 abbrev pub index_places : IndexAnswer → List ℕ
-index_places (Accepted n) = no_places
-index_places (Refused f) = places f
+index_places (Ok n) = no_places
+index_places (Err f) = places f
 
 abbrev pub index_listed : IndexAnswer → ℕ
-index_listed (Accepted n) = n
-index_listed (Refused f) = 0
+index_listed (Ok n) = n
+index_listed (Err f) = 0

@@ -3,11 +3,10 @@
 
 #![tactic(auto)]
 
-ghost use Rattle.std.specs.Prelude.{◌≡◌, List, ℕ, ◌+◌, ◌*◌, ◌/◌, ◌<◌, ◌≤◌, length, set, ℤ};
+ghost use Rattle.std.specs.Prelude.{◌≡◌, ◌+◌, ◌*◌, ◌/◌, ◌<◌, ◌≤◌, length, set, Ok};
 ghost use Rattle.folder.specs.Pick.{pick};
 ghost use Rattle.folder.specs.Tab.{fill};
 ghost use Rattle.folder.specs.Table.{outcome};
-ghost use Rattle.folder.specs.declared.Outcome.TheVariants.{Accepted};
 ghost use Rattle.model.specs.Model.{model_of};
 ghost use Rattle.graph.specs.Simulation.{simulation_of};
 ghost use Rattle.graph.specs.Figures.{over};
@@ -16,15 +15,8 @@ ghost use Rattle.index.specs.Twins.{state_at};
 ghost use Rattle.index.specs.Index.{shared, index_slots, index_rows, IndexRight, slots_of, answers_of, listing_of, answer_of};
 ghost use Rattle.index.specs.Ready.{nodes_in, lowest_in, listed_in, twins_in, Indexed, Seen};
 
-use folder::{Outcome, Refusal};
+use folder::Refusal;
 use graph::{COVERED, MOST_NODES, SLOTS};
-
-// What the index call answers: how many nodes it lists, or a refusal.
-#[derive(Clone, Copy)]
-pub enum IndexAnswer {
-    Accepted(usize),
-    Refused(Refusal),
-}
 
 // The lowest node whose concrete label is state k of the batch.
 fn answer(nb: &[u8], vars: usize, hashes: &[u16], slots: &[u16], batch: &[i16], k: usize) -> u16
@@ -51,11 +43,7 @@ fn answer_batch(
     ensures { answers.new ≡ fill (length batch.now / vars) (λ k. lowest_in vars nb.now (state_at vars batch.now k)) answers.old }
 {
     let n = batch.len() / vars;
-    let mut k = 0;
-    while k < n {
-        answers[k] = answer(nb, vars, hashes, slots, batch, k);
-        k += 1;
-    }
+    folder::fill(answers, n, |k| answer(nb, vars, hashes, slots, batch, k));
 }
 
 // Node n is listed if it is uncovered and one like it was seen. `count` nodes are listed before it.
@@ -105,10 +93,8 @@ fn list_all(
 {
     let nodes = folder::count_of(graph::node_size(vars), nb);
     let mut count = 0;
-    let mut n = 0;
-    while n < nodes {
+    for n in 0..nodes {
         count = visit(nb, vars, hashes, slots, n, seen, listing, count);
-        n += 1;
     }
     count
 }
@@ -123,33 +109,27 @@ fn list_twins(nb: &[u8], vars: usize, hashes: &[u16], slots: &[u16], listing: &m
     list_all(nb, vars, hashes, slots, &mut seen, listing)
 }
 
-// Row 34 of rows of these lengths.
+// Row 34.
+#[tactic(auto, unfolding(folder::specs::Table::outcome))]
 fn rows_check(
     m: &[u8],
     g: &[u8],
-    slots: usize,
-    batch: usize,
-    answers: usize,
-    listing: usize,
-) -> Outcome
+    slots: &[u16],
+    batch: &[i16],
+    answers: &[u16],
+    listing: &[u16],
+) -> Result<(), Refusal>
     requires { Valid m.now g.now }
-    ensures { (s : List ℕ) (b : List ℤ) (a l : List ℕ) → slots ≡ length s → batch ≡ length b → answers ≡ length a → listing ≡ length l → result ≡ outcome (index_rows (model_of m.now) (simulation_of (model_of m.now) g.now) s b a l) }
+    ensures { result ≡ outcome (index_rows (model_of m.now) (simulation_of (model_of m.now) g.now) slots.now batch.now answers.now listing.now) }
 {
     let vars = graph::variable_count(m);
     let nodes = graph::node_count(m, g);
-    if slots != SLOTS {
-        return folder::refuse(34, 0);
-    }
-    if batch % vars != 0 {
-        return folder::refuse(34, 1);
-    }
-    if answers < batch / vars {
-        return folder::refuse(34, 2);
-    }
-    if listing < nodes {
-        return folder::refuse(34, 3);
-    }
-    Outcome::Accepted
+    folder::check_each(34, 4, |p| match p {
+        0 => slots.len() == SLOTS,
+        1 => batch.len() % vars == 0,
+        2 => batch.len() / vars <= answers.len(),
+        _ => nodes <= listing.len(),
+    })
 }
 
 // The rows, where row 34 holds: the slots filled afresh, the answers, and the listing. How many nodes are listed.
@@ -165,8 +145,8 @@ fn fill_rows(
     requires index_right { IndexRight (model_of m.now) (simulation_of (model_of m.now) g.now) slots.old batch.now answers.old listing.old }
     ensures value { result ≡ length (shared (model_of m.now) (simulation_of (model_of m.now) g.now)) }
     ensures slots_after { slots.new ≡ index_slots (model_of m.now) (simulation_of (model_of m.now) g.now) }
-    ensures answers_after { answers.new ≡ answers_of (model_of m.now) (simulation_of (model_of m.now) g.now) Accepted batch.now answers.old }
-    ensures listing_after { listing.new ≡ listing_of (model_of m.now) (simulation_of (model_of m.now) g.now) Accepted listing.old }
+    ensures answers_after { answers.new ≡ answers_of (model_of m.now) (simulation_of (model_of m.now) g.now) (Ok tt) batch.now answers.old }
+    ensures listing_after { listing.new ≡ listing_of (model_of m.now) (simulation_of (model_of m.now) g.now) (Ok tt) listing.old }
 {
     let vars = graph::variable_count(m);
     let nodes = graph::node_count(m, g);
@@ -187,16 +167,13 @@ pub fn index_fill(
     batch: &[i16],
     answers: &mut [u16],
     listing: &mut [u16],
-) -> IndexAnswer
+) -> Result<usize, Refusal>
     requires { Valid m.now g.now }
     ensures value { result ≡ answer_of (model_of m.now) (simulation_of (model_of m.now) g.now) (outcome (index_rows (model_of m.now) (simulation_of (model_of m.now) g.now) slots.old batch.now answers.old listing.old)) }
     ensures slots_after { slots.new ≡ slots_of (model_of m.now) (simulation_of (model_of m.now) g.now) (outcome (index_rows (model_of m.now) (simulation_of (model_of m.now) g.now) slots.old batch.now answers.old listing.old)) slots.old }
     ensures answers_after { answers.new ≡ answers_of (model_of m.now) (simulation_of (model_of m.now) g.now) (outcome (index_rows (model_of m.now) (simulation_of (model_of m.now) g.now) slots.old batch.now answers.old listing.old)) batch.now answers.old }
     ensures listing_after { listing.new ≡ listing_of (model_of m.now) (simulation_of (model_of m.now) g.now) (outcome (index_rows (model_of m.now) (simulation_of (model_of m.now) g.now) slots.old batch.now answers.old listing.old)) listing.old }
 {
-    let o = rows_check(m, g, slots.len(), batch.len(), answers.len(), listing.len());
-    match o {
-        Outcome::Refused(f) => IndexAnswer::Refused(f),
-        Outcome::Accepted => IndexAnswer::Accepted(fill_rows(m, g, slots, batch, answers, listing)),
-    }
+    rows_check(m, g, slots, batch, answers, listing)?;
+    Ok(fill_rows(m, g, slots, batch, answers, listing))
 }

@@ -10,7 +10,7 @@ use lib.IntN.{ℤ}
 use lib.Signed.{le_z}
 use Rattle.folder.specs.Pick.{implies}
 use Rattle.folder.specs.Contents.{body, count_of, field, signed_field}
-use Rattle.folder.specs.Scan.{first_bad}
+use Rattle.folder.specs.Scan.{all}
 use Rattle.folder.proofs.PickLaws.{when-unequal}
 use Rattle.folder.proofs.Decides.{all_same}
 use Rattle.whole.specs.Order.{eq_z}
@@ -47,7 +47,7 @@ module _ {m g nb : List ℕ} {vars : ℕ} (P : Parts m g vars nb) (n : ℕ) wher
   abbrev G : Simulation
   G = simulation_of M g
 
-  pub a1-is : {t r : ℕ} → t ≡ field (node_size vars) nb n 5 → r ≡ first_bad (agrees_at vars nb t t n 6 n) vars → eqb r vars ≡ A1 M G n
+  pub a1-is : {u : ℕ} {r : Bool} → u ≡ field (node_size vars) nb n 5 → r ≡ all (agrees_at vars nb (field (node_size vars) nb n 5) u n 6 n) vars → r ≡ A1 M G n
   unfolding A1
   a1-is p q =
       rw (q, p, P.variables, P.nodes)
@@ -72,14 +72,14 @@ module _ {m g nb : List ℕ} {vars : ℕ} (P : Parts m g vars nb) (n : ℕ) wher
     unfolding C3
     c3-is p q r = rw (s, q, p, r, P.variables, P.nodes) refl
 
-    -- It is 2, and k and t are what the code reads for the cover and the cover's set.
-    module _ (h : kind ≡ 2) {k t : ℕ} (p : k ≡ field (node_size vars) nb n 1) (q : t ≡ field (node_size vars) nb k 5) where
-      pub c1-is : {r : ℕ} → r ≡ first_bad (agrees_at vars nb t t n 6 k) vars → eqb r vars ≡ C1 M G n
+    -- It is 2, and k is what the code reads for the cover.
+    module _ (h : kind ≡ 2) {k : ℕ} (p : k ≡ field (node_size vars) nb n 1) where
+      pub c1-is : {u : ℕ} {r : Bool} → u ≡ field (node_size vars) nb k 5 → r ≡ all (agrees_at vars nb (field (node_size vars) nb k 5) u n 6 k) vars → r ≡ C1 M G n
       unfolding C1
-      c1-is e =
+      c1-is q e =
           rw (eq-eqb (G.kind n) 2 (sym kind-is ∙ h), e, q, p, P.variables, P.nodes)
           (all_same M.variables (λ v _. agrees-own M.variables (body g 0) (G.tracked (G.cover n)) n 6 (G.cover n) v))
 
-      pub c2-is : {u r : ℕ} → u ≡ field (node_size vars) nb n 5 → r ≡ first_bad (agrees_at vars nb t u n (6 + vars) k) vars → eqb r vars ≡ C2 M G n
+      pub c2-is : {u : ℕ} {r : Bool} → u ≡ field (node_size vars) nb n 5 → r ≡ all (agrees_at vars nb (field (node_size vars) nb k 5) u n (6 + vars) k) vars → r ≡ C2 M G n
       unfolding C2 agrees_at
-      c2-is w e = rw (eq-eqb (G.kind n) 2 (sym kind-is ∙ h), e, w, q, p, P.variables, P.nodes) refl
+      c2-is q e = rw (eq-eqb (G.kind n) 2 (sym kind-is ∙ h), e, q, p, P.variables, P.nodes) refl

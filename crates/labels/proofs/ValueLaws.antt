@@ -3,8 +3,9 @@
 -- Assumes nothing.
 use Prim.Native.Nat.{ℕ, ◌*◌, ◌≤◌}
 use native.Mathlib.Omega.{arith}
-use mathlib.Core.Path.{◌≡◌, refl, ◌∙◌}
-use mathlib.Core.Bool.{◌&&◌}
+use mathlib.Core.Path.{◌≡◌, refl, sym, ◌∙◌}
+use mathlib.Core.Bool.{◌&&◌, true, and-true}
+use borrow.Author.Tests.{ne_eqb}
 use mathlib.Core.List.{List}
 use lib.Dec.{leb, eqb}
 use lib.ListN.{length, get_or}
@@ -49,17 +50,34 @@ module _ {m g values weights firsts : List ℕ} {n at : ℕ} (A : ValueReady m g
   abbrev G : Simulation
   G = simulation_of M g
 
-  -- What the code reads: the bodies of commands and edges, and of node n the count of its edges.
-  module _ {vars count : ℕ} {nb cs eb : List ℕ} (P : Parts m g vars nb) (u : cs ≡ body m 3) (w : eb ≡ body g 1) (q : count ≡ field (node_size vars) nb n 4) where
-    pub ready : EdgesReady cs eb weights firsts (length values) at count
-    ready = rw (u, w, q, P.variables, P.nodes, A.starts) (edges-ready m g A.model.model A.tables n A.edges (length values) A.long)
+  module _ {vars : ℕ} {nb : List ℕ} (P : Parts m g vars nb) where
+    -- What the code reads: the bodies of commands and edges, and of node n the count of its edges.
+    module _ {count : ℕ} {cs eb : List ℕ} (u : cs ≡ body m 3) (w : eb ≡ body g 1) (q : count ≡ field (node_size vars) nb n 4) where
+      pub ready : EdgesReady cs eb weights firsts (length values) at count
+      ready = rw (u, w, q, P.variables, P.nodes, A.starts) (edges-ready m g A.model.model A.tables n A.edges (length values) A.long)
 
-    -- And its kind, its cover, the values of both, and the greatest sum over its edges.
-    pub value-is : {kind cover value over best limit : ℕ} → kind ≡ field (node_size vars) nb n 0 → cover ≡ field (node_size vars) nb n 1
-        → value ≡ get_or values n 0 → over ≡ get_or values cover 0 → best ≡ best_of cs eb weights firsts values at count → limit ≡ M.total * value
-        → ((implies (eqb kind 0) (eqb value units) && implies (eqb kind 3) (eqb value units))
-        && (implies (eqb kind 1) (leb best limit) && implies (eqb kind 2) (leb over value)))
-        ≡ value_rule M G (λ k. get_or values k 0) n
-    unfolding value_rule
-    value-is a b x y e z =
-        rw (a, e, y, b, z, x, u, w, q, P.variables, P.nodes, A.starts, best-is m g A.model.model A.tables n A.edges values, greatest-fits (G.edges n) (along (mdp M) (graph G) (λ k. get_or values k 0) n) (M.total * get_or values n 0)) refl
+    -- Its kind and its value.
+    module _ {kind value : ℕ} (a : kind ≡ field (node_size vars) nb n 0) (x : value ≡ get_or values n 0) where
+      kind-is : kind ≡ G.kind n
+      kind-is = a ∙ rw (P.variables, P.nodes) refl
+
+      pub waiting-is : kind ≡ 0 → eqb value units ≡ value_rule M G (λ k. get_or values k 0) n
+      unfolding value_rule
+      waiting-is e = rw (x, sym kind-is ∙ e) (sym (and-true (eqb (get_or values n 0) units && true) ∙ and-true (eqb (get_or values n 0) units)))
+
+      pub target-is : kind ≡ 3 → eqb value units ≡ value_rule M G (λ k. get_or values k 0) n
+      unfolding value_rule
+      target-is e = rw (x, sym kind-is ∙ e) (sym (and-true (eqb (get_or values n 0) units)))
+
+      pub expanded-is : kind ≡ 1 → {count best limit : ℕ} {cs eb : List ℕ} → cs ≡ body m 3 → eb ≡ body g 1 → count ≡ field (node_size vars) nb n 4 → best ≡ best_of cs eb weights firsts values at count → limit ≡ M.total * value → leb best limit ≡ value_rule M G (λ k. get_or values k 0) n
+      unfolding value_rule
+      expanded-is e u w q b z =
+          rw (b, z, x, u, w, q, P.variables, P.nodes, A.starts, best-is m g A.model.model A.tables n A.edges values, greatest-fits (G.edges n) (along (mdp M) (graph G) (λ k. get_or values k 0) n) (M.total * get_or values n 0), sym kind-is ∙ e) (sym (and-true _))
+
+      pub covered-is : kind ≡ 2 → {cover over : ℕ} → cover ≡ field (node_size vars) nb n 1 → over ≡ get_or values cover 0 → leb over value ≡ value_rule M G (λ k. get_or values k 0) n
+      unfolding value_rule
+      covered-is e b y = rw (y, b, x, P.variables, P.nodes, sym kind-is ∙ e) refl
+
+      pub other-is : (kind ≡ 0 → ⊥) → (kind ≡ 1 → ⊥) → (kind ≡ 2 → ⊥) → (kind ≡ 3 → ⊥) → true ≡ value_rule M G (λ k. get_or values k 0) n
+      unfolding value_rule
+      other-is f h i j = rw (ne_eqb (G.kind n) 0 (λ e. f (kind-is ∙ e)), ne_eqb (G.kind n) 1 (λ e. h (kind-is ∙ e)), ne_eqb (G.kind n) 2 (λ e. i (kind-is ∙ e)), ne_eqb (G.kind n) 3 (λ e. j (kind-is ∙ e))) refl

@@ -3,9 +3,9 @@
 #![tactic(auto)]
 
 ghost use Rattle.std.specs.Prelude.{◌≡◌, ◌+◌, ◌*◌, ◌<◌, ◌≤◌, get_or, length};
-ghost use Rattle.folder.specs.Contents.{count_of, field, field4};
+ghost use Rattle.folder.specs.Contents.{body, count_of, field, field4};
 ghost use Rattle.folder.specs.Fields.{field_limit, field4_limit, signed16};
-ghost use Rattle.folder.specs.Scan.{first_bad};
+ghost use Rattle.folder.specs.Scan.{all};
 ghost use Rattle.whole.specs.Order.{eq_z};
 ghost use Rattle.model.specs.Limits.{most_variables};
 ghost use Rattle.model.specs.Layout.{variable_count};
@@ -19,55 +19,59 @@ ghost use Rattle.labels.specs.Values.{ValueReady};
 
 use graph::{COVERED, EXPANDED, TARGET, UNITS, WAITING};
 
-// The 2-byte field f of node n.
-fn node_field(nb: &[u8], vars: usize, n: usize, f: usize) -> usize
-    requires { (vars ≤ most_variables) × (n ≤ field_limit) × (f ≤ field_limit) }
-    ensures { (result ≡ field (node_size vars) nb.now n f) × (result < field_limit) }
-{
-    folder::field(graph::node_size(vars), nb, n, f)
-}
-
-// Two signed fields are equal where their bits are.
-fn same_field(nb: &[u8], vars: usize, n: usize, f: usize, k: usize, j: usize) -> bool
-    requires { (vars ≤ most_variables) × (n ≤ field_limit) × (f ≤ field_limit) × (k ≤ field_limit) × (j ≤ field_limit) }
-    ensures { result ≡ eq_z (signed16 (field (node_size vars) nb.now n f)) (signed16 (field (node_size vars) nb.now k j)) }
-{
-    node_field(nb, vars, n, f) == node_field(nb, vars, k, j)
-}
-
-// The test of `first_apart` at variable v.
-fn agrees_at(
-    nb: &[u8],
+// The nodes of a graph, and how many variables each has values of.
+#[derive(Clone, Copy)]
+struct Nodes<'a> {
     vars: usize,
-    t: usize,
-    u: usize,
-    n: usize,
-    f: usize,
-    k: usize,
-    v: usize,
-) -> bool
-    requires { (vars ≤ most_variables) × (n ≤ field_limit) × (f ≤ 6 + most_variables) × (k ≤ field_limit) × (v < vars) }
-    ensures { result ≡ agrees_at vars nb.now t u n f k v }
-{
-    !expressions::has_bit(t, v)
-        | (expressions::has_bit(u, v) & same_field(nb, vars, n, f + v, k, 6 + vars + v))
+    body: &'a [u8],
+    ghost few: { vars ≤ most_variables },
 }
 
-// The first variable of the set t that is not in the set u, or whose value in node n, from field f on, is not the one in
-// the label of node k.
-fn first_apart(nb: &[u8], vars: usize, t: usize, u: usize, n: usize, f: usize, k: usize) -> usize
-    requires { (vars ≤ most_variables) × (n ≤ field_limit) × (f ≤ 6 + most_variables) × (k ≤ field_limit) }
-    ensures { result ≡ first_bad (agrees_at vars nb.now t u n f k) vars }
+fn nodes_of<'a>(m: &[u8], g: &'a [u8]) -> Nodes<'a>
+    requires { variable_count m.now ≤ most_variables }
+    ensures { (result.vars ≡ variable_count m.now) × (result.body.now ≡ body g.now 0) }
 {
-    let mut v = 0;
-    while v < vars {
-        if agrees_at(nb, vars, t, u, n, f, k, v) {
-            v += 1;
-        } else {
-            return v;
-        }
+    Nodes {
+        vars: model::variable_count(m),
+        body: folder::body(g, 0),
     }
-    v
+}
+
+impl<'a> Nodes<'a> {
+    // The 2-byte field f of node n.
+    fn field(self, n: usize, f: usize) -> usize
+        requires { (n ≤ field_limit) × (f ≤ field_limit) }
+        ensures { (result ≡ field (node_size self.entry.vars) self.entry.body.now n f) × (result < field_limit) }
+    {
+        folder::field(graph::node_size(self.vars), self.body, n, f)
+    }
+
+    // Two signed fields are equal where their bits are.
+    fn same_field(self, n: usize, f: usize, k: usize, j: usize) -> bool
+        requires { (n ≤ field_limit) × (f ≤ field_limit) × (k ≤ field_limit) × (j ≤ field_limit) }
+        ensures { result ≡ eq_z (signed16 (field (node_size self.entry.vars) self.entry.body.now n f)) (signed16 (field (node_size self.entry.vars) self.entry.body.now k j)) }
+    {
+        self.field(n, f) == self.field(k, j)
+    }
+
+    // Variable v, if the set t has it, is in the set u, and its value in node n, from field f on, is the one in the label
+    // of node k.
+    fn agrees_at(self, t: usize, u: usize, n: usize, f: usize, k: usize, v: usize) -> bool
+        requires { (n ≤ field_limit) × (f ≤ 6 + most_variables) × (k ≤ field_limit) × (v < self.vars) }
+        ensures { result ≡ agrees_at self.entry.vars self.entry.body.now t u n f k v }
+    {
+        !expressions::has_bit(t, v)
+            | (expressions::has_bit(u, v) & self.same_field(n, f + v, k, 6 + self.vars + v))
+    }
+
+    // The same of all variables, where t is what node k tracks.
+    fn agree(self, u: usize, n: usize, f: usize, k: usize) -> bool
+        requires { (n ≤ field_limit) × (f ≤ 6 + most_variables) × (k ≤ field_limit) }
+        ensures { result ≡ all (agrees_at self.entry.vars self.entry.body.now (field (node_size self.entry.vars) self.entry.body.now k 5) u n f k) self.entry.vars }
+    {
+        let t = self.field(k, 5);
+        folder::all(self.vars, |v| self.agrees_at(t, u, n, f, k, v))
+    }
 }
 
 // Row 18: the concrete label of node n lies in its label.
@@ -75,10 +79,8 @@ pub fn a1(m: &[u8], g: &[u8], n: usize) -> bool
     requires { (variable_count m.now ≤ most_variables) × (n ≤ field_limit) }
     ensures { result ≡ A1 (model_of m.now) (simulation_of (model_of m.now) g.now) n }
 {
-    let vars = model::variable_count(m);
-    let nb = folder::body(g, 0);
-    let t = node_field(nb, vars, n, 5);
-    first_apart(nb, vars, t, t, n, 6, n) == vars
+    let nodes = nodes_of(m, g);
+    nodes.agree(nodes.field(n, 5), n, 6, n)
 }
 
 // Row 22: the cover of a covered node is there and is not covered.
@@ -86,12 +88,10 @@ pub fn c3(m: &[u8], g: &[u8], n: usize) -> bool
     requires { (variable_count m.now ≤ most_variables) × (n ≤ field_limit) }
     ensures { result ≡ C3 (model_of m.now) (simulation_of (model_of m.now) g.now) n }
 {
-    let vars = model::variable_count(m);
-    let nb = folder::body(g, 0);
-    let k = node_field(nb, vars, n, 1);
-    let nodes = folder::count_of(graph::node_size(vars), nb);
-    !(node_field(nb, vars, n, 0) == COVERED)
-        | ((k < nodes) & !(node_field(nb, vars, k, 0) == COVERED))
+    let nodes = nodes_of(m, g);
+    let k = nodes.field(n, 1);
+    let count = folder::count_of(graph::node_size(nodes.vars), nodes.body);
+    (nodes.field(n, 0) != COVERED) | ((k < count) & (nodes.field(k, 0) != COVERED))
 }
 
 // Row 23: the concrete label of a covered node lies in the cover's label.
@@ -99,15 +99,12 @@ pub fn c1(m: &[u8], g: &[u8], n: usize) -> bool
     requires { (variable_count m.now ≤ most_variables) × (n ≤ field_limit) }
     ensures { result ≡ C1 (model_of m.now) (simulation_of (model_of m.now) g.now) n }
 {
-    let vars = model::variable_count(m);
-    let nb = folder::body(g, 0);
-    if node_field(nb, vars, n, 0) == COVERED {
-        let k = node_field(nb, vars, n, 1);
-        let t = node_field(nb, vars, k, 5);
-        first_apart(nb, vars, t, t, n, 6, k) == vars
-    } else {
-        true
+    let nodes = nodes_of(m, g);
+    if nodes.field(n, 0) != COVERED {
+        return true;
     }
+    let k = nodes.field(n, 1);
+    nodes.agree(nodes.field(k, 5), n, 6, k)
 }
 
 // Row 24: a covered node tracks what its cover tracks, with the same values.
@@ -115,27 +112,12 @@ pub fn c2(m: &[u8], g: &[u8], n: usize) -> bool
     requires { (variable_count m.now ≤ most_variables) × (n ≤ field_limit) }
     ensures { result ≡ C2 (model_of m.now) (simulation_of (model_of m.now) g.now) n }
 {
-    let vars = model::variable_count(m);
-    let nb = folder::body(g, 0);
-    if node_field(nb, vars, n, 0) == COVERED {
-        let k = node_field(nb, vars, n, 1);
-        let t = node_field(nb, vars, k, 5);
-        let u = node_field(nb, vars, n, 5);
-        first_apart(nb, vars, t, u, n, 6 + vars, k) == vars
-    } else {
-        true
+    let nodes = nodes_of(m, g);
+    if nodes.field(n, 0) != COVERED {
+        return true;
     }
-}
-
-// The value of node k; past the last, 0.
-fn value_at(values: &[u32], k: usize) -> usize
-    ensures { (result ≡ get_or values.now k 0) × (result < field4_limit) }
-{
-    if k < values.len() {
-        values[k] as usize
-    } else {
-        0
-    }
+    let k = nodes.field(n, 1);
+    nodes.agree(nodes.field(n, 5), n, 6 + nodes.vars, k)
 }
 
 // D times a value.
@@ -160,19 +142,20 @@ pub fn value_rule(
     requires { ValueReady m.now g.now values.now weights.now firsts.now n at }
     ensures { result ≡ value_rule (model_of m.now) (simulation_of (model_of m.now) g.now) (λ k. get_or values.now k 0) n }
 {
-    let vars = model::variable_count(m);
-    let nb = folder::body(g, 0);
-    let kind = node_field(nb, vars, n, 0);
-    let cover = node_field(nb, vars, n, 1);
-    let count = node_field(nb, vars, n, 4);
-    let value = value_at(values, n);
-    let over = value_at(values, cover);
-    let cs = folder::body(m, 3);
-    let eb = folder::body(g, 1);
-    let best = sums::best_of(cs, eb, weights, firsts, values, at, count);
-    let below = best.greatest <= limit_of(m, value);
-    ((!(kind == WAITING) | (value == UNITS)) & (!(kind == TARGET) | (value == UNITS)))
-        & ((!(kind == EXPANDED) | below) & (!(kind == COVERED) | (over <= value)))
+    let nodes = nodes_of(m, g);
+    let value = folder::get_or(values, n, 0) as usize;
+    match nodes.field(n, 0) {
+        WAITING | TARGET => value == UNITS,
+        EXPANDED => {
+            let cs = folder::body(m, 3);
+            let eb = folder::body(g, 1);
+            let count = nodes.field(n, 4);
+            let best = sums::best_of(cs, eb, weights, firsts, values, at, count);
+            best.greatest <= limit_of(m, value)
+        }
+        COVERED => folder::get_or(values, nodes.field(n, 1), 0) as usize <= value,
+        _ => true,
+    }
 }
 
 // The row's first elements become the 4-byte field 2 of each record; the later ones stay.
@@ -180,12 +163,11 @@ fn fill_fields(size: usize, b: &[u8], row: &mut [u32])
     requires { (0 < size) × (size ≤ field_limit) × (count_of size b.now ≤ most_nodes) × (count_of size b.now ≤ length row.old) }
     ensures { row.new ≡ fill (count_of size b.now) (λ i. field4 size b.now i 2) row.old }
 {
-    let n = folder::count_of(size, b);
-    let mut i = 0;
-    while i < n {
-        row[i] = folder::field4(size, b, i, 2) as u32;
-        i += 1;
-    }
+    folder::fill(
+        row,
+        folder::count_of(size, b),
+        |i| folder::field4(size, b, i, 2) as u32,
+    );
 }
 
 // The values of the graph folder, one per node.

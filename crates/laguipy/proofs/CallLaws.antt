@@ -4,33 +4,31 @@ use Prim.Native.Nat.{ℕ}
 use mathlib.Core.Path.{◌≡◌, refl, sym, ap, ◌∙◌}
 use mathlib.Core.List.{List, ◌++◌, append_assoc}
 use Rattle.folder.specs.Pick.{pick}
-use Rattle.folder.specs.Table.{outcome}
+use Rattle.folder.specs.Table.{outcome, Outcome}
 use Rattle.folder.specs.declared.Refusal.{Refusal}
-use Rattle.folder.specs.declared.Outcome.{Outcome}
-use Rattle.folder.specs.declared.Outcome.TheVariants.{Accepted, Refused}
 use Rattle.folder.proofs.TableLaws.{accepted-then, refused-then}
 use Rattle.model.specs.Model.{model_of}
 use Rattle.model.specs.Table.{model_rows, model_outcome}
 use Rattle.graph.specs.Simulation.{simulation_of}
 use Rattle.graph.specs.Table.{graph_rows, graph_outcome, summary, graph_answer}
 use Rattle.graph.specs.Figures.{figure_rows, figure_outcome, first_of, second_of, part_of, part_in_first, first_row, second_row, figure_part, figure_in_first}
-use Rattle.graph.specs.declared.GraphAnswer.TheVariants as Answer
+use Rattle.std.specs.Prelude.{Err, Ok}
 
 -- ---- the graph check, after the model check's outcome
-pub graph-model-refused : (m g : List ℕ) (f : Refusal) → model_outcome m ≡ Refused f → graph_outcome m g ≡ Refused f
+pub graph-model-refused : (m g : List ℕ) (f : Refusal) → model_outcome m ≡ Err f → graph_outcome m g ≡ Err f
 unfolding model_outcome graph_outcome
 graph-model-refused m g f e = refused-then (model_rows m) (graph_rows (model_of m) g) f e
 
-pub graph-goes-on : (m g : List ℕ) → model_outcome m ≡ Accepted → graph_outcome m g ≡ outcome (graph_rows (model_of m) g)
+pub graph-goes-on : (m g : List ℕ) → model_outcome m ≡ (Ok tt) → graph_outcome m g ≡ outcome (graph_rows (model_of m) g)
 unfolding model_outcome graph_outcome
 graph-goes-on m g e = accepted-then (model_rows m) (graph_rows (model_of m) g) e
 
 -- ---- its answer
-pub answer-refused : (m g : List ℕ) (f : Refusal) → graph_outcome m g ≡ Refused f → graph_answer m g ≡ Answer.Refused f
+pub answer-refused : (m g : List ℕ) (f : Refusal) → graph_outcome m g ≡ Err f → graph_answer m g ≡ Err f
 unfolding graph_answer
 answer-refused m g f e = rw e refl
 
-pub answer-accepted : (m g : List ℕ) → graph_outcome m g ≡ Accepted → graph_answer m g ≡ Answer.Accepted (summary (simulation_of (model_of m) g))
+pub answer-accepted : (m g : List ℕ) → graph_outcome m g ≡ (Ok tt) → graph_answer m g ≡ Ok (summary (simulation_of (model_of m) g))
 unfolding graph_answer
 answer-accepted m g e = rw e refl
 
@@ -40,11 +38,11 @@ module _ (m g : List ℕ) (h : ℕ) (first second : List ℕ) where
   unfolding figure_outcome
   figure-rows-after = ap outcome (sym (append_assoc (model_rows m) (graph_rows (model_of m) g) (figure_rows (simulation_of (model_of m) g) h first second)))
 
-  pub figure-graph-refused : (f : Refusal) → graph_outcome m g ≡ Refused f → figure_outcome m g h first second ≡ Refused f
+  pub figure-graph-refused : (f : Refusal) → graph_outcome m g ≡ Err f → figure_outcome m g h first second ≡ Err f
   unfolding graph_outcome
   figure-graph-refused f e = figure-rows-after ∙ refused-then (model_rows m ++ graph_rows (model_of m) g) (figure_rows (simulation_of (model_of m) g) h first second) f e
 
-  pub figure-goes-on : graph_outcome m g ≡ Accepted → figure_outcome m g h first second ≡ outcome (figure_rows (simulation_of (model_of m) g) h first second)
+  pub figure-goes-on : graph_outcome m g ≡ (Ok tt) → figure_outcome m g h first second ≡ outcome (figure_rows (simulation_of (model_of m) g) h first second)
   unfolding graph_outcome
   figure-goes-on e = figure-rows-after ∙ accepted-then (model_rows m ++ graph_rows (model_of m) g) (figure_rows (simulation_of (model_of m) g) h first second) e
 

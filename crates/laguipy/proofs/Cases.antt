@@ -27,15 +27,14 @@ use Rattle.model.specs.Pedal.{pedal_model}
 use Rattle.graph.specs.Simulation.{edge_size, edge_after, edges_start, edge_whole, edge_at, kind_of}
 use Rattle.graph.specs.Rules.{nodes_fit, head_fits, values_fit, node_fits, edge_fits, edges_fit, root_fits, A1, A2, B1, result_is, label_follows, follows, edge_follows, B2, C3, C1, C2, value_rule}
 use Rattle.graph.specs.Seconds.{second19, second_of, second21}
-use Rattle.graph.specs.Table.{graph_outcome, graph_answer}
+use Rattle.graph.specs.Table.{graph_outcome, graph_answer, GraphAnswer}
 use Rattle.graph.specs.Figures.{figures, figure_outcome, figure_part}
 use Rattle.laguipy.specs.Cases.{Case, Told, checked, figured, stepped, cases}
 use Rattle.graph.specs.Pedal.{pedal_graph}
 use Rattle.graph.specs.Demand.{Bounds}
 use Rattle.graph.specs.declared.Summary.{Summary}
-use Rattle.graph.specs.declared.GraphAnswer.{GraphAnswer}
-use Rattle.graph.specs.declared.GraphAnswer.TheVariants.{Accepted, Refused}
 use Rattle.graph.proofs.Demand.{demand-3}
+use Rattle.std.specs.Prelude.{Err, Ok}
 
 -- All that the calls are defined by, opened.
 unfoldable computing : ℕ
@@ -48,15 +47,15 @@ cases-hold = refl
 
 -- Demand 3 is not empty: the pedal example is accepted, and so every strategy is bounded by its root value.
 abbrev answer-told : List Told → GraphAnswer
-answer-told [] = Refused (refusal 0 0)
+answer-told [] = Err (refusal 0 0)
 answer-told (checked a ∷ ts) = a
-answer-told (figured o part ∷ ts) = Refused (refusal 0 0)
-answer-told (stepped o row ∷ ts) = Refused (refusal 0 0)
+answer-told (figured o part ∷ ts) = Err (refusal 0 0)
+answer-told (stepped o row ∷ ts) = Err (refusal 0 0)
 
 abbrev pub pedal_summary : Summary
 pedal_summary = record { root = 10000000; waiting = 0; expanded = 3; covered = 2; target = 1 }
 
-pedal-accepted : graph_answer pedal_model pedal_graph ≡ Accepted pedal_summary
+pedal-accepted : graph_answer pedal_model pedal_graph ≡ Ok pedal_summary
 pedal-accepted = ap answer-told cases-hold
 
 pub pedal-bounds : Bounds pedal_model pedal_graph pedal_summary

@@ -1,17 +1,13 @@
 -- Document 01's cases for proof (◆) with the second places of document 02, 2.2, and a case for each way that a second place
 -- comes about, as one list: what a call answers, and what it is due to answer.
 -- Assumes nothing.
-use Rattle.std.specs.Prelude.{ℕ, List, [], ◌∷◌, set, replicate, ℤ, pos}
-use Rattle.folder.specs.Table.{refusal_at, refused}
-use Rattle.folder.specs.declared.Outcome.{Outcome}
-use Rattle.folder.specs.declared.Outcome.TheVariants as O
+use Rattle.std.specs.Prelude.{ℕ, List, [], ◌∷◌, set, replicate, ℤ, pos, Err, Ok}
+use Rattle.folder.specs.Table.{refusal_at, refused, Outcome}
 use Rattle.model.specs.Pedal.{fields, folder_of, pedal_model}
 use Rattle.model.specs.Step.{step_outcome, step_row}
-use Rattle.graph.specs.Table.{graph_answer}
+use Rattle.graph.specs.Table.{graph_answer, GraphAnswer}
 use Rattle.graph.specs.Figures.{figure_outcome, figure_part}
 use Rattle.graph.specs.Pedal.{node, graph_folder, pedal_nodes, pedal_edges, pedal_graph}
-use Rattle.graph.specs.declared.GraphAnswer.{GraphAnswer}
-use Rattle.graph.specs.declared.GraphAnswer.TheVariants.{Accepted, Refused}
 
 -- What a call tells: the graph check its answer, the figure call and the step their outcome with the part or the row.
 pub data Told : Type 0 where
@@ -39,11 +35,11 @@ step m s c b = stepped (step_outcome m s c b (replicate 2 (pos 0))) (step_row m 
 
 abbrev pub accepts : ℕ → ℕ → ℕ → ℕ → ℕ → Told
 accepts root expanded covered target waiting =
-    checked (Accepted (record { root = root; waiting = waiting; expanded = expanded; covered = covered; target = target }))
+    checked (Ok (record { root = root; waiting = waiting; expanded = expanded; covered = covered; target = target }))
 
 -- With a second place, and with none.
 abbrev pub refuses_at : ℕ → ℕ → ℕ → Told
-refuses_at n p s = checked (Refused (refusal_at n p s))
+refuses_at n p s = checked (Err (refusal_at n p s))
 
 abbrev pub refuses : ℕ → ℕ → Told
 refuses n p = refuses_at n p 0
@@ -113,10 +109,10 @@ abbrev pub cases : List Case
 cases =
     -- as printed: accepted; its four figures
     check pedal_model pedal_graph is accepts 10000000 3 2 1 0
-    ∷ figures_of pedal_model pedal_graph 0 is figured O.Accepted (0 ∷ 0 ∷ 0 ∷ 0 ∷ 0 ∷ 1000000000 ∷ [])
-    ∷ figures_of pedal_model pedal_graph 1 is figured O.Accepted (0 ∷ 0 ∷ 100000000 ∷ 0 ∷ 0 ∷ 1000000000 ∷ [])
-    ∷ figures_of pedal_model pedal_graph 2 is figured O.Accepted (10000000 ∷ 0 ∷ 100000000 ∷ 10000000 ∷ 0 ∷ 1000000000 ∷ [])
-    ∷ figures_of pedal_model pedal_graph 3 is figured O.Accepted (10000000 ∷ 0 ∷ 100000000 ∷ 10000000 ∷ 0 ∷ 1000000000 ∷ [])
+    ∷ figures_of pedal_model pedal_graph 0 is figured (Ok tt) (0 ∷ 0 ∷ 0 ∷ 0 ∷ 0 ∷ 1000000000 ∷ [])
+    ∷ figures_of pedal_model pedal_graph 1 is figured (Ok tt) (0 ∷ 0 ∷ 100000000 ∷ 0 ∷ 0 ∷ 1000000000 ∷ [])
+    ∷ figures_of pedal_model pedal_graph 2 is figured (Ok tt) (10000000 ∷ 0 ∷ 100000000 ∷ 10000000 ∷ 0 ∷ 1000000000 ∷ [])
+    ∷ figures_of pedal_model pedal_graph 3 is figured (Ok tt) (10000000 ∷ 0 ∷ 100000000 ∷ 10000000 ∷ 0 ∷ 1000000000 ∷ [])
     -- root value 9,999,999
     ∷ check pedal_model (pedal_with 0 (node 1 0 9999999 2 1 (0 ∷ 0 ∷ []) (0 ∷ 0 ∷ []))) is refuses 25 0
     -- node 3 covered by 4, or by itself
@@ -134,11 +130,11 @@ cases =
     -- node 2's label says a = 0: 21 at 0 by a, which comes before 18 at 2
     ∷ check pedal_model (pedal_with 2 (node 1 0 100000000 1 1 (1 ∷ 0 ∷ []) (0 ∷ 0 ∷ []))) is refuses_at 21 0 0
     -- step (0,0), command 0, branch 1: (1,0); from (1,0) command 1: 32
-    ∷ step pedal_model (pos 0 ∷ pos 0 ∷ []) 0 1 is stepped O.Accepted (pos 1 ∷ pos 0 ∷ [])
+    ∷ step pedal_model (pos 0 ∷ pos 0 ∷ []) 0 1 is stepped (Ok tt) (pos 1 ∷ pos 0 ∷ [])
     ∷ step pedal_model (pos 1 ∷ pos 0 ∷ []) 1 0 is stepped (refused 32 1) (pos 0 ∷ pos 0 ∷ [])
     -- D 3
     ∷ check third_model (third_graph 333333334) is accepts 333333334 2 0 1 0
-    ∷ figures_of third_model (third_graph 333333334) 1 is figured O.Accepted (333333334 ∷ 1000000000 ∷ 0 ∷ [])
+    ∷ figures_of third_model (third_graph 333333334) 1 is figured (Ok tt) (333333334 ∷ 1000000000 ∷ 0 ∷ [])
     ∷ check third_model (third_graph 333333333) is refuses 25 0
     -- a guard is unknown because of y; x, which its known part mentions, is the lowest that it lacks; and y where x is tracked
     ∷ check mention_model (mention_root 0) is refuses_at 19 0 0

@@ -14,13 +14,11 @@ ghost use Rattle.index.specs.Index.{index_answer, slots_row, answers_row, listin
 ghost use Rattle.assembly.specs.Build.{build_answer, built_slice};
 ghost use Rattle.graph.specs.Figures.{figure_outcome, first_row, second_row, figure_part, figure_in_first};
 
-use assembly::BuildAnswer;
-use folder::Outcome;
-use graph::{GraphAnswer, Summary};
-use index::IndexAnswer;
+use folder::Refusal;
+use graph::Summary;
 
 // The model check: rows 1 to 11.
-pub fn model_check(model: &[u8]) -> Outcome
+pub fn model_check(model: &[u8]) -> Result<(), Refusal>
     ensures { result ≡ model_outcome model.now }
 {
     model_rules::check_model(model)
@@ -36,25 +34,19 @@ pub fn record_part(model: &[u8], e: usize, i: usize) -> &[u8]
 }
 
 // Rows 1 to 25.
-fn graph_outcome(m: &[u8], g: &[u8]) -> Outcome
+fn graph_outcome(m: &[u8], g: &[u8]) -> Result<(), Refusal>
     ensures { result ≡ graph_outcome m.now g.now }
 {
-    let o = model_rules::check_model(m);
-    match o {
-        Outcome::Refused(f) => Outcome::Refused(f),
-        Outcome::Accepted => graph_rules::check_graph(m, g),
-    }
+    model_rules::check_model(m)?;
+    graph_rules::check_graph(m, g)
 }
 
 // The graph check: the model's rows first, then 12 to 25.
-pub fn graph_check(model: &[u8], graph: &[u8]) -> GraphAnswer
+pub fn graph_check(model: &[u8], graph: &[u8]) -> Result<Summary, Refusal>
     ensures { result ≡ graph_answer model.now graph.now }
 {
-    let o = graph_outcome(model, graph);
-    match o {
-        Outcome::Refused(f) => GraphAnswer::Refused(f),
-        Outcome::Accepted => GraphAnswer::Accepted(graph_rules::summary_of(model, graph)),
-    }
+    graph_outcome(model, graph)?;
+    Ok(graph_rules::summary_of(model, graph))
 }
 
 // What the figure call on these arguments answers. Nothing is written.
@@ -64,14 +56,11 @@ pub fn figure_refusal(
     h: usize,
     first: &[u32],
     second: &[u32],
-) -> Outcome
+) -> Result<(), Refusal>
     ensures { result ≡ figure_outcome model.now graph.now h first.now second.now }
 {
-    let o = graph_outcome(model, graph);
-    match o {
-        Outcome::Refused(f) => Outcome::Refused(f),
-        Outcome::Accepted => figures::figure_check(model, graph, h, first, second),
-    }
+    graph_outcome(model, graph)?;
+    figures::figure_check(model, graph, h, first, second)
 }
 
 // The figure call, by its answer: round h in the row of its parity, round h - 1 in the other.
@@ -81,16 +70,13 @@ pub fn figure_rows(
     h: usize,
     first: &mut [u32],
     second: &mut [u32],
-) -> Outcome
+) -> Result<(), Refusal>
     ensures value { result ≡ figure_outcome model.now graph.now h first.old second.old }
     ensures first_after { first.new ≡ first_row model.now graph.now h first.old second.old }
     ensures second_after { second.new ≡ second_row model.now graph.now h first.old second.old }
 {
-    let o = graph_outcome(model, graph);
-    match o {
-        Outcome::Refused(f) => Outcome::Refused(f),
-        Outcome::Accepted => figures::figure_fill(model, graph, h, first, second),
-    }
+    graph_outcome(model, graph)?;
+    figures::figure_fill(model, graph, h, first, second)
 }
 
 // The figure call, by the part of the row that holds the figures; refused, the empty part of the first row.
@@ -104,10 +90,9 @@ pub fn figure<'a>(
     ensures result_value { result.now ≡ figure_part model.now graph.now h first.old second.old }
     ensures ref_ptr_value { result.ref_ptr ≡ pick (figure_in_first model.now graph.now h first.old second.old) first.entry.ref_ptr second.entry.ref_ptr }
 {
-    let o = graph_outcome(model, graph);
-    match o {
-        Outcome::Refused(_) => &mut first[..0],
-        Outcome::Accepted => figures::figure_part(model, graph, h, first, second),
+    match graph_outcome(model, graph) {
+        Err(_) => &mut first[..0],
+        Ok(()) => figures::figure_part(model, graph, h, first, second),
     }
 }
 
@@ -120,33 +105,33 @@ pub fn index(
     batch: &[i16],
     answers: &mut [u16],
     listing: &mut [u16],
-) -> IndexAnswer
+) -> Result<usize, Refusal>
     ensures value { result ≡ index_answer model.now graph.now slots.old batch.now answers.old listing.old }
     ensures slots_after { slots.new ≡ slots_row model.now graph.now slots.old batch.now answers.old listing.old }
     ensures answers_after { answers.new ≡ answers_row model.now graph.now slots.old batch.now answers.old listing.old }
     ensures listing_after { listing.new ≡ listing_row model.now graph.now slots.old batch.now answers.old listing.old }
 {
-    let o = graph_outcome(model, graph);
-    match o {
-        Outcome::Refused(f) => IndexAnswer::Refused(f),
-        Outcome::Accepted => index::index_fill(model, graph, slots, batch, answers, listing),
-    }
+    graph_outcome(model, graph)?;
+    index::index_fill(model, graph, slots, batch, answers, listing)
 }
 
 // The build call: a graph of the model in the lent slice, with its values after the rounds asked for.
-pub fn build(model: &[u8], rounds: usize, out: &mut [u8]) -> BuildAnswer
+pub fn build(model: &[u8], rounds: usize, out: &mut [u8]) -> Result<usize, Refusal>
     ensures value { result ≡ build_answer model.now rounds out.old }
     ensures out_after { out.new ≡ built_slice model.now rounds out.old }
 {
-    let o = model_rules::check_model(model);
-    match o {
-        Outcome::Refused(f) => BuildAnswer::Refused(f),
-        Outcome::Accepted => assembly::build_lent(model, rounds, out),
-    }
+    model_rules::check_model(model)?;
+    assembly::build_lent(model, rounds, out)
 }
 
 // The step of a state by a branch of a command, into a lent row.
-pub fn step(model: &[u8], state: &[i16], command: usize, branch: usize, res: &mut [i16]) -> Outcome
+pub fn step(
+    model: &[u8],
+    state: &[i16],
+    command: usize,
+    branch: usize,
+    res: &mut [i16],
+) -> Result<(), Refusal>
     ensures value { result ≡ step_outcome model.now state.now command branch res.old }
     ensures res_after { res.new ≡ step_row model.now state.now command branch res.old }
 {

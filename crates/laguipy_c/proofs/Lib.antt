@@ -1,2 +1,3 @@
 mod ViewLaws
 mod FigureLaws
+mod NumberLaws

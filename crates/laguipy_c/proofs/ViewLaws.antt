@@ -10,18 +10,18 @@ use lib.ListN.{length}
 use Rattle.folder.specs.Contents.{start_of, body}
 use Rattle.folder.specs.Table.{outcome}
 use Rattle.folder.specs.declared.Refusal.{Refusal}
-use Rattle.folder.specs.declared.Outcome.TheVariants.{Accepted, Refused}
 use Rattle.folder.proofs.ContentsLaws.{body-short, record-whole}
 use Rattle.model.specs.Layout.{bodies, record_size, record_count}
 use Rattle.model.specs.Table.{folder_rows}
 use Rattle.model.specs.View.{record_there, view_start}
 use Rattle.model.proofs.ViewLaws.{none-start, there-start, no_body as no-record-there}
+use Rattle.std.specs.Prelude.{Err, Ok}
 
 module _ (m : List ℕ) (e i : ℕ) where
   pub no_body : bodies ≤ e → 0 ≡ view_start m e i
   no_body l = sym (none-start m e i (sym (no-record-there m e i l)))
 
-  pub no-folder : (f : Refusal) → outcome (folder_rows m) ≡ Refused f → 0 ≡ view_start m e i
+  pub no-folder : (f : Refusal) → outcome (folder_rows m) ≡ Err f → 0 ≡ view_start m e i
   unfolding record_there
   no-folder f r = sym (none-start m e i (rw r refl))
 
@@ -30,7 +30,7 @@ module _ (m : List ℕ) (e i : ℕ) where
   unfolding record_count
   records-short l = omega (arith, record-whole (record_size m e) (body m e) i l, body-short m e)
 
-  module _ (a : outcome (folder_rows m) ≡ Accepted) (b : e < bodies) where
+  module _ (a : outcome (folder_rows m) ≡ (Ok tt)) (b : e < bodies) where
     pub no_record : record_count m e ≤ i → 0 ≡ view_start m e i
     unfolding record_there
     no_record l = sym (none-start m e i (rw (a, lt-ltb e bodies b, le-ltb i (record_count m e) l) refl))

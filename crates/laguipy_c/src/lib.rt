@@ -4,10 +4,9 @@
 
 #![tactic(auto)]
 
-ghost use Rattle.std.specs.Prelude.{◌≡◌, ◌<◌};
+ghost use Rattle.std.specs.Prelude.{◌≡◌, ◌<◌, Ok};
 ghost use Rattle.folder.specs.Pick.{pick};
 ghost use Rattle.folder.specs.Table.{outcome_number, outcome_places, outcome};
-ghost use Rattle.folder.specs.declared.Outcome.TheVariants.{Accepted};
 ghost use Rattle.model.specs.Table.{folder_rows, model_outcome};
 ghost use Rattle.model.specs.View.{view_start};
 ghost use Rattle.model.specs.Step.{step_outcome, step_row};
@@ -15,55 +14,36 @@ ghost use Rattle.graph.specs.Table.{graph_answer, answer_number, answer_places, 
 ghost use Rattle.graph.specs.Figures.{figure_outcome, in_first, first_row, second_row};
 ghost use Rattle.assembly.specs.Build.{build_answer, built_slice, build_number, build_places, build_length};
 ghost use Rattle.index.specs.Index.{index_answer, slots_row, answers_row, listing_row, index_number, index_places, index_listed};
-ghost use Rattle.laguipy_c.specs.Answers.{view_place, figure_place};
+ghost use Rattle.laguipy_c.specs.Answers.{number_of, places_of, view_place, figure_place};
 
-use assembly::BuildAnswer;
-use folder::Outcome;
-use graph::GraphAnswer;
-use index::IndexAnswer;
+use folder::Refusal;
+use graph::Summary;
 
-fn number_of(o: Outcome) -> usize
-    ensures { result ≡ outcome_number o }
+// The number of an answer, whatever it holds where it accepts.
+fn number_of<T: Copy>(answer: Result<T, Refusal>) -> usize
+    ensures { result ≡ number_of answer }
 {
-    match o {
-        Outcome::Accepted => 0,
-        Outcome::Refused(f) => f.number,
+    match answer {
+        Ok(_) => 0,
+        Err(f) => f.number,
     }
 }
 
-fn places_of(o: Outcome) -> [usize; 2]
-    ensures { result ≡ outcome_places o }
+fn places_of<T: Copy>(answer: Result<T, Refusal>) -> [usize; 2]
+    ensures { result ≡ places_of answer }
 {
-    match o {
-        Outcome::Accepted => [0, 0],
-        Outcome::Refused(f) => [f.place, f.second],
+    match answer {
+        Ok(_) => [0, 0],
+        Err(f) => [f.place, f.second],
     }
 }
 
-fn answer_number(a: GraphAnswer) -> usize
-    ensures { result ≡ answer_number a }
-{
-    match a {
-        GraphAnswer::Accepted(_) => 0,
-        GraphAnswer::Refused(f) => f.number,
-    }
-}
-
-fn answer_places(a: GraphAnswer) -> [usize; 2]
-    ensures { result ≡ answer_places a }
-{
-    match a {
-        GraphAnswer::Accepted(_) => [0, 0],
-        GraphAnswer::Refused(f) => [f.place, f.second],
-    }
-}
-
-fn answer_values(a: GraphAnswer) -> [usize; 5]
+fn answer_values(a: Result<Summary, Refusal>) -> [usize; 5]
     ensures { result ≡ answer_values a }
 {
     match a {
-        GraphAnswer::Accepted(s) => [s.root, s.waiting, s.expanded, s.covered, s.target],
-        GraphAnswer::Refused(_) => [0, 0, 0, 0, 0],
+        Ok(s) => [s.root, s.waiting, s.expanded, s.covered, s.target],
+        Err(_) => [0, 0, 0, 0, 0],
     }
 }
 
@@ -80,7 +60,7 @@ pub extern "C" fn laguipy_model_check(model: &[u8], place: &mut [usize; 2]) -> u
 
 // Where the view's part starts, in a folder that keeps rows 1 to 3.
 fn record_start(m: &[u8], e: usize, i: usize) -> usize
-    requires m_value { outcome (folder_rows m.now) ≡ Accepted }
+    requires m_value { outcome (folder_rows m.now) ≡ Ok tt }
     requires e_bound { e < 5 }
     ensures { result ≡ view_start m.now e i }
 {
@@ -95,10 +75,9 @@ fn view_start(m: &[u8], e: usize, i: usize) -> usize
     ensures { result ≡ view_start m.now e i }
 {
     if e < 5 {
-        let o = model::check_folder(m);
-        match o {
-            Outcome::Accepted => record_start(m, e, i),
-            Outcome::Refused(_) => 0,
+        match model::check_folder(m) {
+            Ok(()) => record_start(m, e, i),
+            Err(_) => 0,
         }
     } else {
         0
@@ -128,9 +107,9 @@ pub extern "C" fn laguipy_graph_check(
     ensures values_after { values.new ≡ answer_values (graph_answer model.now graph.now) }
 {
     let a = laguipy::graph_check(model, graph);
-    *place = answer_places(a);
+    *place = places_of(a);
     *values = answer_values(a);
-    answer_number(a)
+    number_of(a)
 }
 
 // What the figure call on these arguments answers; nothing is written to the rows.
@@ -195,46 +174,18 @@ pub extern "C" fn laguipy_figure(
     ensures place_after { place.new ≡ outcome_places (figure_outcome model.now graph.now h first.old second.old) }
     ensures part_after { part.new ≡ figure_place model.now graph.now h first.old second.old }
 {
-    let o = laguipy::figure_rows(model, graph, h, first, second);
-    match o {
-        Outcome::Accepted => {
+    match laguipy::figure_rows(model, graph, h, first, second) {
+        Ok(()) => {
             let count = graph::node_count(model, graph);
             *place = [0, 0];
             *part = [row_of(h), count];
             0
         }
-        Outcome::Refused(f) => {
+        Err(f) => {
             *place = [f.place, f.second];
             *part = [0, 0];
             f.number
         }
-    }
-}
-
-fn index_number(a: IndexAnswer) -> usize
-    ensures { result ≡ index_number a }
-{
-    match a {
-        IndexAnswer::Accepted(_) => 0,
-        IndexAnswer::Refused(f) => f.number,
-    }
-}
-
-fn index_places(a: IndexAnswer) -> [usize; 2]
-    ensures { result ≡ index_places a }
-{
-    match a {
-        IndexAnswer::Accepted(_) => [0, 0],
-        IndexAnswer::Refused(f) => [f.place, f.second],
-    }
-}
-
-fn index_listed(a: IndexAnswer) -> usize
-    ensures { result ≡ index_listed a }
-{
-    match a {
-        IndexAnswer::Accepted(n) => n,
-        IndexAnswer::Refused(_) => 0,
     }
 }
 
@@ -258,36 +209,9 @@ pub extern "C" fn laguipy_index(
     ensures listed_after { listed.new ≡ index_listed (index_answer model.now graph.now slots.old batch.now answers.old listing.old) }
 {
     let a = laguipy::index(model, graph, slots, batch, answers, listing);
-    *place = index_places(a);
-    *listed = index_listed(a);
-    index_number(a)
-}
-
-fn build_number(a: BuildAnswer) -> usize
-    ensures { result ≡ build_number a }
-{
-    match a {
-        BuildAnswer::Built(_) => 0,
-        BuildAnswer::Refused(f) => f.number,
-    }
-}
-
-fn build_places(a: BuildAnswer) -> [usize; 2]
-    ensures { result ≡ build_places a }
-{
-    match a {
-        BuildAnswer::Built(_) => [0, 0],
-        BuildAnswer::Refused(f) => [f.place, f.second],
-    }
-}
-
-fn build_length(a: BuildAnswer) -> usize
-    ensures { result ≡ build_length a }
-{
-    match a {
-        BuildAnswer::Built(n) => n,
-        BuildAnswer::Refused(_) => 0,
-    }
+    *place = places_of(a);
+    *listed = a.unwrap_or(0);
+    number_of(a)
 }
 
 // The build call.
@@ -305,9 +229,9 @@ pub extern "C" fn laguipy_build(
     ensures length_after { length.new ≡ build_length (build_answer model.now rounds out.old) }
 {
     let a = laguipy::build(model, rounds, out);
-    *place = build_places(a);
-    *length = build_length(a);
-    build_number(a)
+    *place = places_of(a);
+    *length = a.unwrap_or(0);
+    number_of(a)
 }
 
 // The step of a state by a branch of a command, into a lent row.

@@ -17,7 +17,6 @@ use Rattle.mdp.proofs.SumLaws.{sum-eq, greatest-eq}
 use Rattle.folder.specs.Pick.{pick}
 use Rattle.folder.specs.Tab.{fill}
 use Rattle.folder.proofs.Decides.{and_both}
-use Rattle.folder.proofs.PickLaws.{pick-by}
 use Rattle.folder.proofs.FillLaws.{length-fill, get_or-filled, fill-same, fill-again}
 use Rattle.model.specs.Model.{Model, model_of}
 use Rattle.model.specs.Chances.{mdp}
@@ -44,12 +43,6 @@ module _ (m g : List ℕ) where
   -- The row r with round k.
   abbrev pub round_row : ℕ → List ℕ → List ℕ
   round_row k r = fill (nodes_of m g) (rounds_of (model_of m) (simulation_of (model_of m) g) k) r
-
-  -- A row that was r holds round x, which is later than k and at most h.
-  pub record Reached (k x h : ℕ) (r row : List ℕ) : Type 0 where
-    pub later : k < x
-    pub within : x ≤ h
-    pub is : row ≡ round_row x r
 
   -- Round 0, of the row s.
   module _ (s : List ℕ) {nodes : ℕ} {r : List ℕ} (n : nodes ≡ nodes_of m g) (e : r ≡ fill nodes (λ _. units) s) where
@@ -121,18 +114,14 @@ module _ {m g : List ℕ} (A : Valid m g) where
     swept-is = rw e (swept_same (λ i. get_or (round_row m g k r) i 0) (rounds_of M G k) (holding k r) G.nodes (le_refl G.nodes))
 
     -- A round more.
-    round-more : {next : List ℕ} → next ≡ swept_row m g row → next ≡ round_row m g (k + 1) r
+    pub round-more : {next : List ℕ} → next ≡ swept_row m g row → next ≡ round_row m g (k + 1) r
     round-more q = q ∙ fill-same (nodes_of m g) _ (rounds_of M G (suc k)) row swept-is ∙ rw (e, add-one) (fill-again (nodes_of m g) (rounds_of M G k) (rounds_of M G (suc k)) r)
 
     still-same : still_row m g row ≡ true → Same (rounds_of M G (suc k)) (rounds_of M G k)
     still-same t i l = sym (swept-is i l) ∙ unchanged-is M G (λ j. get_or row j 0) (nodes_of m g) t i ∙ rw e (holding k r i l)
 
-    pub reached-is : {h x : ℕ} {same : Bool} {next : List ℕ} → k < h → same ≡ still_row m g row → next ≡ swept_row m g row → x ≡ pick same h (k + 1) → Reached m g k x h r next
-    reached-is {h} {x} {same} {next} l q p i = rw i (pick-by (λ (x : ℕ). Reached m g k x h r next) same
-        (λ t. record {
-          later = l;
-          within = omega arith;
-          is = round-more p ∙ fill-same (nodes_of m g) (rounds_of M G (k + 1)) (rounds_of M G h) r
-              (λ j b. rw add-one (still-same (sym q ∙ t) j b) ∙ sym (settled k (still-same (sym q ∙ t)) h (omega arith) j b));
-        })
-        (λ _. record { later = omega arith; within = omega arith; is = round-more p }))
+    -- A round that changed nothing: the row holds every later one.
+    pub settled-row : {h : ℕ} {same : Bool} {next : List ℕ} → k < h → same ≡ still_row m g row → next ≡ swept_row m g row → same ≡ true → next ≡ round_row m g h r
+    settled-row {h} l q p t =
+        round-more p ∙ fill-same (nodes_of m g) (rounds_of M G (k + 1)) (rounds_of M G h) r
+        (λ j b. rw add-one (still-same (sym q ∙ t) j b) ∙ sym (settled k (still-same (sym q ∙ t)) h (omega arith) j b))

@@ -2,7 +2,7 @@
 
 #![tactic(auto)]
 
-ghost use Rattle.std.specs.Prelude.{◌≡◌, ◌&&◌, ◌*◌, ◌<◌, ◌≤◌, eqb, length};
+ghost use Rattle.std.specs.Prelude.{◌≡◌, ◌*◌, ◌<◌, ◌≤◌, eqb, length};
 ghost use Rattle.mdp.specs.Sums.{rounded_up};
 ghost use Rattle.folder.specs.Fields.{field_limit};
 ghost use Rattle.folder.specs.Pick.{pick};
@@ -15,25 +15,8 @@ ghost use Rattle.sums.specs.Tables.{Tables, Round};
 ghost use Rattle.building.specs.Values.{rounds_of};
 ghost use Rattle.lowering.specs.Sweeps.{nodes_of, swept_row, still_row, Starts};
 
-use graph::{COVERED, EXPANDED};
+use graph::EXPANDED;
 use model::{MOST_COMMANDS, MOST_RECORDS};
-
-// Certainty.
-const UNITS: u32 = graph::UNITS as u32;
-
-// D.
-fn total_of(m: &[u8]) -> usize
-    ensures { (result ≡ (model_of m.now).total) × (result < field_limit) }
-{
-    folder::field(4, folder::body(m, 0), 0, 0)
-}
-
-// Whose value a node takes, unless it is expanded.
-fn source_of(kind: usize, cover: usize, n: usize) -> usize
-    ensures { result ≡ pick (eqb kind 2) cover n }
-{
-    if kind == COVERED { cover } else { n }
-}
 
 // What a node is set to, from the greatest sum over its edges and the value of its source.
 fn value_by(kind: usize, best: usize, d: usize, taken: u32) -> u32
@@ -45,13 +28,6 @@ fn value_by(kind: usize, best: usize, d: usize, taken: u32) -> u32
     } else {
         taken
     }
-}
-
-// No value has changed, this one included.
-fn still(same: bool, old: u32, value: u32) -> bool
-    ensures { result ≡ (same && eqb old value) }
-{
-    same & (old == value)
 }
 
 // One round. The answer: no value has changed.
@@ -72,46 +48,26 @@ fn sweep(
 {
     let size = graph::node_size(graph::variable_count(m));
     let nodes = graph::node_count(m, g);
-    let d = total_of(m);
+    let d = sums::total_of(m);
     let cs = folder::body(m, 3);
     let nb = folder::body(g, 0);
     let eb = folder::body(g, 1);
     let mut same = true;
-    let mut n = 0;
-    while n < nodes {
+    for n in 0..nodes {
         let kind = folder::field(size, nb, n, 0);
         let cover = folder::field(size, nb, n, 1);
         let count = folder::field(size, nb, n, 4);
         let at = begins::begin_of(begins, n);
         let best = sums::best_of(cs, eb, weights, firsts, row, at, count);
-        let from = source_of(kind, cover, n);
+        let from = sums::source_of(kind, cover, n);
         let value = value_by(kind, best.greatest, d, row[from]);
-        same = still(same, row[n], value);
+        same &= row[n] == value;
         row[n] = value;
-        n += 1;
     }
     same
 }
 
-// Round 0: S everywhere.
-fn fill_units(nodes: usize, row: &mut [u32])
-    requires { nodes ≤ length row.old }
-    ensures { row.new ≡ fill nodes (λ _. units) row.old }
-{
-    let mut n = 0;
-    while n < nodes {
-        row[n] = UNITS;
-        n += 1;
-    }
-}
-
-// The round that the row has come to, of `rounds`: k, unless the last one changed nothing. Then every later one is the same.
-fn reached(same: bool, k: usize, rounds: usize) -> usize
-    ensures { result ≡ pick same rounds k }
-{
-    if same { rounds } else { k }
-}
-
+// S everywhere, then a round for each of `rounds`, or until one changes nothing. Then every later one is the same.
 fn sweeps(
     m: &[u8],
     g: &[u8],
@@ -128,11 +84,11 @@ fn sweeps(
     ensures { row.new ≡ fill (nodes_of m.now g.now) (rounds_of (model_of m.now) (simulation_of (model_of m.now) g.now) rounds) row.old }
 {
     let nodes = graph::node_count(m, g);
-    fill_units(nodes, row);
-    let mut k = 0;
-    while k < rounds {
-        let same = sweep(m, g, weights, firsts, begins, row);
-        k = reached(same, k + 1, rounds);
+    folder::fill(row, nodes, |_| sums::UNITS);
+    for _ in 0..rounds {
+        if sweep(m, g, weights, firsts, begins, row) {
+            return;
+        }
     }
 }
 

@@ -1,9 +1,9 @@
 -- A kind changes: node n waits again, becomes a target, or is covered.
 -- Assumes nothing.
+use Rattle.std.specs.Prelude.{Some}
 use Prim.Native.Nat.{ℕ, ◌+◌, ◌-◌, ◌*◌, ◌<◌, ◌≤◌, min, max}
 use mathlib.Core.Path.{◌≡◌, refl, sym, ap, ◌∙◌, subst}
 use mathlib.Core.Bool.{false≢true}
-use mathlib.Core.Option.{some}
 use mathlib.Core.List.{List}
 use native.Mathlib.Decide.{dec_lt, ℕ_discrete}
 use native.Mathlib.Omega.{arith}
@@ -72,7 +72,7 @@ module _ (m nb : List ℕ) (n k c : ℕ) where
       stays-both (put-stays vars nb n kind_field k (omega arith) nodes l) (put-stays vars (put_in vars nb n kind_field k) n cover_field c (omega arith) nodes l)
 
 -- ---- node n is not expanded, neither before nor after
-module _ {m : List ℕ} {longest : ℕ} {w : Work} {nb marks reaches begins : List ℕ} (mv : Move) (R : Ready m longest w nb marks reaches begins (some mv)) (n : ℕ) (κ : Kind) (c : ℕ)
+module _ {m : List ℕ} {longest : ℕ} {w : Work} {nb marks reaches begins : List ℕ} (mv : Move) (R : Ready m longest w nb marks reaches begins (Some mv)) (n : ℕ) (κ : Kind) (c : ℕ)
     (same : becoming n κ c (graph_in m w nb) ≡ apply (model_of m) mv (graph_in m w nb)) (was : if_expanded ((graph_in m w nb).kind n) 1 ≡ 0) (is : if_expanded κ 1 ≡ 0) (new : List ℕ)
     (others : (i f : ℕ) → f < field_count (variable_count m) → (f ≡ kind_field → ⊥) → (f ≡ cover_field → ⊥) → (f ≡ hint_field m → ⊥) → node_in m new i f ≡ node_in m nb i f) where
   abbrev M : Model
@@ -91,7 +91,7 @@ module _ {m : List ℕ} {longest : ℕ} {w : Work} {nb marks reaches begins : Li
       → Settled M B fresh → HintRight M U (hint_in m new) fresh → ReachRight M U (row_in reaches') → MarkRight M U (row_in marks') low high → NextRight M U next → Counts M U waiting (row_in begins)
       → (low ≤ high) × (high ≤ w.nodes) × (next ≤ w.nodes) × (fresh ≤ most_nodes) → ((x : ℕ) → row_in reaches' x ≤ w.nodes) → length marks' ≡ length marks → length reaches' ≡ length reaches
       → Stays 0 (node_size (variable_count m) * w.nodes) nb new
-      → Made m longest w nb (some mv) (working w.nodes w.len fresh low high next waiting) new marks' reaches' begins
+      → Made m longest w nb (Some mv) (working w.nodes w.len fresh low high next waiting) new marks' reaches' begins
   kind-changed fresh low high next waiting {marks'} {reaches'} held s h r k x counts window bound long longer stays = made mv R held
       (subst (Knows m (working w.nodes w.len fresh low high next waiting) new marks' reaches' begins) same (record {
         counted = R.lent.counted ∙ sym (length-becoming M B n κ c was is);
@@ -114,13 +114,13 @@ module _ {m : List ℕ} {longest : ℕ} {w : Work} {nb marks reaches begins : Li
       stays
 
 -- ---- n's cover is dropped
-module _ {m : List ℕ} {longest : ℕ} {w : Work} {nb marks reaches begins : List ℕ} {n : ℕ} (R : Ready m longest w nb marks reaches begins (some (drop n))) where
+module _ {m : List ℕ} {longest : ℕ} {w : Work} {nb marks reaches begins : List ℕ} {n : ℕ} (R : Ready m longest w nb marks reaches begins (Some (drop n))) where
   drop-unmarked : (i : ℕ) → max w.high n ≤ i → Dec (i ≡ n) → row_in (set marks n 0) i ≡ 0
   drop-unmarked i h (yes e) =
       ap (λ (j : ℕ). get_or (set marks n 0) j 0) e ∙ get_or-set_same marks n 0 0 (in-marks (drop n) R (told_of (drop n) R).0)
   drop-unmarked i h (no d) = get_or-set_other marks n i 0 0 d ∙ R.to_make.marked.above i (omega arith)
 
-  pub dropped : Made m longest w nb (some (drop n)) (dropped_work w n) (become_in (variable_count m) nb n 0 0) (set marks n 0) reaches begins
+  pub dropped : Made m longest w nb (Some (drop n)) (dropped_work w n) (become_in (variable_count m) nb n 0 0) (set marks n 0) reaches begins
   dropped =
       let g = told_of (drop n) R in
       let B : Building = graph_in m w nb in
@@ -155,7 +155,7 @@ module _ {m : List ℕ} {w : Work} {nb marks : List ℕ} {n : ℕ} (T : ToGrow m
   marked-alone i d = get_or-set_other marks n i 1 0 d ∙ nothing-marked i
 
 -- Its kind, where it is not expanded.
-module _ {m : List ℕ} {longest : ℕ} {w : Work} {nb marks reaches begins : List ℕ} {n : ℕ} {mv : Move} (R : Ready m longest w nb marks reaches begins (some mv)) (T : ToGrow m w nb marks n)
+module _ {m : List ℕ} {longest : ℕ} {w : Work} {nb marks reaches begins : List ℕ} {n : ℕ} {mv : Move} (R : Ready m longest w nb marks reaches begins (Some mv)) (T : ToGrow m w nb marks n)
     (l : n < w.nodes) (κ : Kind) (c : ℕ) (later : κ ≡ Kind.expanded → ⊥) (same : apply (model_of m) mv (graph_in m w nb) ≡ becoming n κ c (graph_in m w nb))
     (near : (i : ℕ) → (i ≡ n → ⊥) → OutOfReach (model_of m) (graph_in m w nb) i mv) where
   alone-marked : MarkRight (model_of m) (becoming n κ c (graph_in m w nb)) (row_in (set marks n 1)) n (n + 1)
@@ -165,8 +165,8 @@ module _ {m : List ℕ} {longest : ℕ} {w : Work} {nb marks reaches begins : Li
       (λ i p. marked-alone T i (λ e. omega arith))
 
 -- ---- n becomes a target
-module _ {m : List ℕ} {longest : ℕ} {w : Work} {nb marks reaches begins : List ℕ} {n : ℕ} (R : Ready m longest w nb marks reaches begins (some (reach n))) where
-  pub targeted : Made m longest w nb (some (reach n)) (grown_work w.nodes w.len n (w.waiting - 1) n) (become_in (variable_count m) nb n 3 0) (set marks n 1) reaches begins
+module _ {m : List ℕ} {longest : ℕ} {w : Work} {nb marks reaches begins : List ℕ} {n : ℕ} (R : Ready m longest w nb marks reaches begins (Some (reach n))) where
+  pub targeted : Made m longest w nb (Some (reach n)) (grown_work w.nodes w.len n (w.waiting - 1) n) (become_in (variable_count m) nb n 3 0) (set marks n 1) reaches begins
   targeted =
       let g = told_of (reach n) R in
       let B : Building = graph_in m w nb in
@@ -231,8 +231,8 @@ module _ (row : List ℕ) (c u : ℕ) (there : c < length row) where
       go (yes e) = subst Q (sym (ap (row_in (set row c u)) e ∙ row_at)) (h e)
       go (no d) = subst Q (sym (get_or-set_other row c x u 0 d)) g
 
-module _ {m : List ℕ} {longest : ℕ} {w : Work} {nb marks reaches begins : List ℕ} {n c : ℕ} (R : Ready m longest w nb marks reaches begins (some (cover_by n c))) where
-  pub covered : Made m longest w nb (some (cover_by n c)) (grown_work w.nodes w.len most_nodes (w.waiting - 1) n) (put_in (variable_count m) (become_in (variable_count m) nb n 2 c) n (hint_field m) c) (set marks n 1) (set reaches c (max (row_in reaches c) (n + 1))) begins
+module _ {m : List ℕ} {longest : ℕ} {w : Work} {nb marks reaches begins : List ℕ} {n c : ℕ} (R : Ready m longest w nb marks reaches begins (Some (cover_by n c))) where
+  pub covered : Made m longest w nb (Some (cover_by n c)) (grown_work w.nodes w.len most_nodes (w.waiting - 1) n) (put_in (variable_count m) (become_in (variable_count m) nb n 2 c) n (hint_field m) c) (set marks n 1) (set reaches c (max (row_in reaches c) (n + 1))) begins
   covered =
       let mv : Move = cover_by n c in
       let g = told_of mv R in

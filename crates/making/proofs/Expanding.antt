@@ -1,8 +1,8 @@
 -- Node n is expanded: by the row of what the entries are in its state.
 -- Assumes nothing.
+use Rattle.std.specs.Prelude.{Some}
 use Prim.Native.Nat.{ℕ, ◌+◌, ◌-◌, ◌*◌, ◌^◌, ◌<◌, ◌≤◌}
 use mathlib.Core.Path.{◌≡◌, refl, sym, ap, ◌∙◌, subst}
-use mathlib.Core.Option.{some}
 use mathlib.Core.List.{List, []}
 use native.Mathlib.Decide.{dec_lt}
 use native.Mathlib.Omega.{arith}
@@ -54,7 +54,7 @@ edges-part : (M : Model) (B : Building) → graph_length M B ≡ least_bytes + n
 unfolding graph_length
 edges-part M B = refl
 
-module _ {m : List ℕ} {longest : ℕ} {w : Work} {nb marks reaches begins : List ℕ} {n : ℕ} (R : Ready m longest w nb marks reaches begins (some (expand n))) where
+module _ {m : List ℕ} {longest : ℕ} {w : Work} {nb marks reaches begins : List ℕ} {n : ℕ} (R : Ready m longest w nb marks reaches begins (Some (expand n))) where
   abbrev M : Model
   M = model_of m
 
@@ -221,7 +221,7 @@ module _ {m : List ℕ} {longest : ℕ} {w : Work} {nb marks reaches begins : Li
                 ∙ (λ j. begin_after n w.nodes (born-is j) (bytes-are j) (edges_before M B w.nodes + bytes-are j) (row_in begins) i) ∙ c.walked i l;
           }
 
-      pub expanded : Made m longest w nb (some (expand n)) (grown_work (w.nodes + born) (w.len + (node_size (variable_count m) * born + bytes)) n (w.waiting - 1 + born) n) final (set marks n 1) reaches begun
+      pub expanded : Made m longest w nb (Some (expand n)) (grown_work (w.nodes + born) (w.len + (node_size (variable_count m) * born + bytes)) n (w.waiting - 1 + born) n) final (set marks n 1) reaches begun
       expanded =
           let v = valid (expand n) R in
           let waits = (told_of (expand n) R).1 in
@@ -255,8 +255,8 @@ module _ {m : List ℕ} {longest : ℕ} {w : Work} {nb marks reaches begins : Li
       -- With the numbers that the code has worked out.
       module _ {vars size b e : ℕ} (p : vars ≡ variable_count m) (s : size ≡ node_size vars) (x : b ≡ born) (y : e ≡ bytes) where
         pub expanded-as : {w' : Work} {last row : List ℕ} → w' ≡ grown_work (w.nodes + b) (w.len + (size * b + e)) n (w.waiting - 1 + b) n → last ≡ expanded_in vars new n w.nodes
-            → row ≡ tab (length begins) (begin_after n w.nodes b e (end p s x y) (row_in begins)) → Made m longest w nb (some (expand n)) w' last (set marks n 1) reaches row
+            → row ≡ tab (length begins) (begin_after n w.nodes b e (end p s x y) (row_in begins)) → Made m longest w nb (Some (expand n)) w' last (set marks n 1) reaches row
         expanded-as {w'} {last} {row} N h r =
             let q : row ≡ begun = r ∙ (λ i. tab (length begins) (begin_after n w.nodes (x i) (y i) ((end_is p s x y ∙ ap (λ (k : ℕ). edges_before M B w.nodes + k) y) i) (row_in begins))) in
-            subst (Made m longest w nb (some (expand n)) w' last (set marks n 1) reaches) (sym q)
+            subst (Made m longest w nb (Some (expand n)) w' last (set marks n 1) reaches) (sym q)
             (made_as (N ∙ rw (s, p, x, y) refl) (h ∙ ap (λ (z : ℕ). expanded_in z new n w.nodes) p) refl refl expanded)

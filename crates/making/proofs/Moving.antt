@@ -1,9 +1,8 @@
 -- The move that is next is made: what is left to show, and that the records then hold all that the builder's loop keeps.
 -- Assumes nothing.
+use Rattle.std.specs.Prelude.{Option, Some}
 use Prim.Native.Nat.{ℕ, ◌+◌, ◌*◌, ◌<◌, ◌≤◌, max}
-use mathlib.Core.Path.{◌≡◌, sym, ap, ◌∙◌, subst, transport}
-use mathlib.Core.Bool.{true, false≢true}
-use mathlib.Core.Option.{Option, some}
+use mathlib.Core.Path.{◌≡◌, sym, ap, subst, transport}
 use mathlib.Core.List.{List}
 use native.Mathlib.Omega.{arith}
 use lib.ListN.{length}
@@ -15,7 +14,6 @@ use Rattle.model.specs.Model.{Model, model_of}
 use Rattle.model.specs.Valid.{Valid}
 use Rattle.graph.specs.Limits.{least_bytes, most_nodes}
 use Rattle.graph.specs.Simulation.{node_size}
-use Rattle.building.specs.First.{there}
 use Rattle.building.specs.Building.{Building, births}
 use Rattle.building.specs.Length.{graph_length, length_with}
 use Rattle.building.specs.Moves.{Limit, Move, track, adopt, drop, cover_by, reach, expand, apply, next_move}
@@ -33,7 +31,6 @@ use Rattle.held.specs.Held.{field_count, put_in, Whole}
 use Rattle.held.proofs.FieldLaws.{record-at, whole-at, put-within}
 use Rattle.nodes.specs.Told.{told}
 use Rattle.nodes.specs.declared.Move.{Move as Found}
-use Rattle.nodes.specs.declared.Move.TheVariants.{Nothing}
 use Rattle.wants.specs.Standing.{read_in, parent_in, hint_in, row_in}
 use Rattle.work.specs.Working.{limit_of, graph_in, Ready, Made}
 use Rattle.work.specs.declared.Work.{Work}
@@ -101,7 +98,7 @@ nodes-within : (M : Model) (C : Building) (nodes : ℕ) → C.nodes ≡ nodes �
 unfolding graph_length
 nodes-within M C nodes e h = rw (← e) (omega arith)
 
-module _ {m : List ℕ} {longest : ℕ} {w : Work} {nb marks reaches begins : List ℕ} (mv : Move) (R : Ready m longest w nb marks reaches begins (some mv)) where
+module _ {m : List ℕ} {longest : ℕ} {w : Work} {nb marks reaches begins : List ℕ} (mv : Move) (R : Ready m longest w nb marks reaches begins (Some mv)) where
   abbrev M : Model
   M = model_of m
 
@@ -117,7 +114,7 @@ module _ {m : List ℕ} {longest : ℕ} {w : Work} {nb marks reaches begins : Li
   pub keeps : Kept M most_nodes B
   keeps = R.held.kept
 
-  next-move : next_move M P B ≡ some mv
+  next-move : next_move M P B ≡ Some mv
   next-move = sym R.next
 
   apt : Apt M P B mv
@@ -156,7 +153,7 @@ module _ {m : List ℕ} {longest : ℕ} {w : Work} {nb marks reaches begins : Li
   after-short = short-kept M P B mv apt (rw (← R.lent.counted) R.lent.short)
 
   pub made : {w' : Work} {nb' marks' reaches' begins' : List ℕ} → graph_in m w' nb' ≡ apply M mv B → Knows m w' nb' marks' reaches' begins' (apply M mv B)
-      → Within m w.nodes w' nb' marks' reaches' begins' → Stays 0 (node_size (variable_count m) * w'.nodes) nb nb' → Made m longest w nb (some mv) w' nb' marks' reaches' begins'
+      → Within m w.nodes w' nb' marks' reaches' begins' → Stays 0 (node_size (variable_count m) * w'.nodes) nb nb' → Made m longest w nb (Some mv) w' nb' marks' reaches' begins'
   made {w'} {nb'} {marks'} {reaches'} {begins'} e f h s =
       let k : Knows m w' nb' marks' reaches' begins' (graph_in m w' nb') = subst (Knows m w' nb' marks' reaches' begins') (sym e) f in
       record {
@@ -195,12 +192,9 @@ module _ {m : List ℕ} {longest : ℕ} {w : Work} {nb marks reaches begins : Li
 
 -- ---- the move that the code was told
 pub ready_by : {m : List ℕ} {longest : ℕ} {w : Work} {nb marks reaches begins : List ℕ} {found is : Found} → found ≡ is
-    → Ready m longest w nb marks reaches begins (told found) → Ready m longest w nb marks reaches begins (told is)
-ready_by {m} {longest} {w} {nb} {marks} {reaches} {begins} e h = subst (λ (f : Found). Ready m longest w nb marks reaches begins (told f)) e h
+    → Ready m longest w nb marks reaches begins (Some (told found)) → Ready m longest w nb marks reaches begins (Some (told is))
+ready_by {m} {longest} {w} {nb} {marks} {reaches} {begins} e h = subst (λ (f : Found). Ready m longest w nb marks reaches begins (Some (told f))) e h
 
 pub made_by : {m : List ℕ} {longest : ℕ} {w w' : Work} {nb nb' marks' reaches' begins' : List ℕ} {found is : Found} → found ≡ is
-    → Made m longest w nb (told is) w' nb' marks' reaches' begins' → Made m longest w nb (told found) w' nb' marks' reaches' begins'
-made_by {m} {longest} {w} {w'} {nb} {nb'} {marks'} {reaches'} {begins'} e h = subst (λ (f : Found). Made m longest w nb (told f) w' nb' marks' reaches' begins') (sym e) h
-
-pub nothing-told : {found : Found} {A : Type 0} → found ≡ Nothing → there (told found) ≡ true → A
-nothing-told e h = absurd (false≢true (ap (λ (f : Found). there (told f)) (sym e) ∙ h))
+    → Made m longest w nb (Some (told is)) w' nb' marks' reaches' begins' → Made m longest w nb (Some (told found)) w' nb' marks' reaches' begins'
+made_by {m} {longest} {w} {w'} {nb} {nb'} {marks'} {reaches'} {begins'} e h = subst (λ (f : Found). Made m longest w nb (Some (told f)) w' nb' marks' reaches' begins') (sym e) h

@@ -1,9 +1,9 @@
 -- The label of node n grows: by a variable, or by what its cover tracks.
 -- Assumes nothing.
+use Rattle.std.specs.Prelude.{Some}
 use Prim.Native.Nat.{ℕ, ◌+◌, ◌*◌, ◌^◌, ◌<◌, ◌≤◌, min, max}
 use mathlib.Core.Path.{◌≡◌, refl, sym, ap, ◌∙◌, subst}
 use mathlib.Core.Bool.{Bool, true, false, false≢true, ◌&&◌}
-use mathlib.Core.Option.{some}
 use mathlib.Core.List.{List}
 use native.Mathlib.Decide.{ℕ_discrete}
 use native.Mathlib.Omega.{arith}
@@ -73,7 +73,7 @@ low-within n parent end = go (ℕ_discrete end 0)
     go (yes e) = rw (eq-eqb end 0 e) (omega arith)
     go (no d) = rw (ne_eqb end 0 d) (omega arith)
 
-module _ {m : List ℕ} {longest : ℕ} {w : Work} {nb marks reaches begins : List ℕ} (mv : Move) (R : Ready m longest w nb marks reaches begins (some mv)) (n : ℕ) (there : n < w.nodes) (u : ℕ) (new : List ℕ)
+module _ {m : List ℕ} {longest : ℕ} {w : Work} {nb marks reaches begins : List ℕ} (mv : Move) (R : Ready m longest w nb marks reaches begins (Some mv)) (n : ℕ) (there : n < w.nodes) (u : ℕ) (new : List ℕ)
     (put : new ≡ put_in (variable_count m) nb n tracked_field u) where
   abbrev M : Model
   M = model_of m
@@ -126,7 +126,7 @@ module _ {m : List ℕ} {longest : ℕ} {w : Work} {nb marks reaches begins : Li
         (λ i h. G.same i (λ q. omega arith) (λ q. omega arith) (omega arith) ∙ T.marked.above i (omega arith))
 
     pub label-grown : (t : ℕ) → tracking n t B ≡ apply M mv B → ((v : ℕ) → has_bit (B.tracked n) v ≡ true → has_bit t v ≡ true) → t < 2 ^ M.variables → held_in m w.nodes new ≡ apply M mv B
-        → Counts M (tracking n t B) w.waiting (row_in begins) → Made m longest w nb (some mv) (labelled_work w n (parent_in m new n) (row_in reaches n)) new marks' reaches begins
+        → Counts M (tracking n t B) w.waiting (row_in begins) → Made m longest w nb (Some mv) (labelled_work w n (parent_in m new n) (row_in reaches n)) new marks' reaches begins
     label-grown t same more small held counts =
         let low : ℕ = pick (eqb (row_in reaches n) 0) (min n (parent_in m new n)) 0 in
         let high : ℕ = max w.high (max (max n (parent_in m new n) + 1) (row_in reaches n)) in
@@ -153,7 +153,7 @@ module _ {m : List ℕ} {longest : ℕ} {w : Work} {nb marks reaches begins : Li
         (subst (λ (bytes : List ℕ). Stays 0 (node_size (variable_count m) * w.nodes) nb bytes) (sym put) (put-stays (variable_count m) nb n tracked_field u (omega arith) w.nodes there))
 
 -- ---- n tracks variable v
-module _ {m : List ℕ} {longest : ℕ} {w : Work} {nb marks reaches begins : List ℕ} {n v : ℕ} (R : Ready m longest w nb marks reaches begins (some (track n v))) where
+module _ {m : List ℕ} {longest : ℕ} {w : Work} {nb marks reaches begins : List ℕ} {n v : ℕ} (R : Ready m longest w nb marks reaches begins (Some (track n v))) where
   abbrev tracked_in : List ℕ
   tracked_in = put_in (variable_count m) nb n tracked_field (union (set_in m nb n) (2 ^ v))
 
@@ -161,7 +161,7 @@ module _ {m : List ℕ} {longest : ℕ} {w : Work} {nb marks reaches begins : Li
   tracked-is e h = h ∙ ap (λ (x : ℕ). put_in x nb n tracked_field (union (field (node_size x) nb n tracked_field) (2 ^ v))) e
 
   pub track-grown : {new marks' : List ℕ} → new ≡ tracked_in → MarkedReach (variable_count m) new n (parent_in m new n) (row_in reaches n) marks marks'
-      → Made m longest w nb (some (track n v)) (labelled_work w n (parent_in m new n) (row_in reaches n)) new marks' reaches begins
+      → Made m longest w nb (Some (track n v)) (labelled_work w n (parent_in m new n) (row_in reaches n)) new marks' reaches begins
   track-grown {new} e G =
       let mv : Move = track n v in
       let g = told_of mv R in
@@ -175,7 +175,7 @@ module _ {m : List ℕ} {longest : ℕ} {w : Work} {nb marks reaches begins : Li
       (ap (held_in m w.nodes) e ∙ track-made m w.nodes nb R.held.long n g.0 v fits) (track-counts (model_of m) B R.counts n v)
 
 -- ---- n tracks what its cover tracks
-module _ {m : List ℕ} {longest : ℕ} {w : Work} {nb marks reaches begins : List ℕ} {n : ℕ} (R : Ready m longest w nb marks reaches begins (some (adopt n))) where
+module _ {m : List ℕ} {longest : ℕ} {w : Work} {nb marks reaches begins : List ℕ} {n : ℕ} (R : Ready m longest w nb marks reaches begins (Some (adopt n))) where
   abbrev cover : ℕ
   cover = node_in m nb n cover_field
 
@@ -188,7 +188,7 @@ module _ {m : List ℕ} {longest : ℕ} {w : Work} {nb marks reaches begins : Li
       h ∙ ap (λ (x : ℕ). put_in x nb n tracked_field (union (field (node_size x) nb n tracked_field) (field (node_size x) nb (field (node_size x) nb n cover_field) tracked_field))) e
 
   pub adopt-grown : {new marks' : List ℕ} → new ≡ adopted_in → MarkedReach (variable_count m) new n (parent_in m new n) (row_in reaches n) marks marks'
-      → Made m longest w nb (some (adopt n)) (labelled_work w n (parent_in m new n) (row_in reaches n)) new marks' reaches begins
+      → Made m longest w nb (Some (adopt n)) (labelled_work w n (parent_in m new n) (row_in reaches n)) new marks' reaches begins
   adopt-grown {new} e G =
       let mv : Move = adopt n in
       let g = told_of mv R in

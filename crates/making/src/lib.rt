@@ -2,14 +2,12 @@
 
 #![tactic(auto)]
 
-ghost use Rattle.std.specs.Prelude.{◌≡◌, true, ◌+◌, ◌-◌, ◌<◌, ◌≤◌, max, length, set};
-ghost use Rattle.std.proofs.Math.Option.{some};
+ghost use Rattle.std.specs.Prelude.{◌≡◌, ◌+◌, ◌-◌, ◌<◌, ◌≤◌, max, length, set, Some};
 ghost use Rattle.folder.specs.Fields.{field_limit};
 ghost use Rattle.model.specs.Limits.{most_variables};
 ghost use Rattle.model.specs.Layout.{variable_count};
 ghost use Rattle.model.specs.Valid.{Valid};
 ghost use Rattle.graph.specs.Limits.{most_nodes};
-ghost use Rattle.building.specs.First.{there};
 ghost use Rattle.building.specs.Moves.{expand};
 ghost use Rattle.put.specs.Put.{Changed};
 ghost use Rattle.held.specs.Held.{state_field, put_in, become_in};
@@ -34,6 +32,7 @@ fn is_under(vars: usize, nb: &[u8], n: usize, i: usize) -> bool
     (kind == COVERED) & (cover == n)
 }
 
+// A function, since an `if` in a loop that changes a row would leave a joined state.
 fn mark_if(hit: bool, mark: u8) -> u8
     ensures { result ≡ mark_if hit mark }
 {
@@ -45,10 +44,8 @@ fn mark_under(vars: usize, nb: &[u8], n: usize, end: usize, marks: &mut [u8])
     requires { (vars ≤ most_variables) × (end ≤ field_limit) × (end ≤ length marks.old) }
     ensures { Changed 0 end (mark_under vars nb.now n) marks.old marks.new }
 {
-    let mut i = 0;
-    while i < end {
+    for i in 0..end {
         marks[i] = mark_if(is_under(vars, nb, n, i), marks[i]);
-        i += 1;
     }
 }
 
@@ -62,12 +59,6 @@ fn mark_reach(vars: usize, nb: &[u8], n: usize, parent: usize, end: usize, marks
     mark_under(vars, nb, n, end, marks);
 }
 
-fn wide(x: u16) -> usize
-    ensures { (result ≡ x) × (result < field_limit) }
-{
-    x as usize
-}
-
 // The label of node n has grown: what that may break is marked.
 fn grow_label(m: &[u8], nb: &[u8], marks: &mut [u8], reaches: &[u16], w: Work, n: usize) -> Work
     requires valid { Valid m.now }
@@ -78,7 +69,7 @@ fn grow_label(m: &[u8], nb: &[u8], marks: &mut [u8], reaches: &[u16], w: Work, n
 {
     let vars = graph::variable_count(m);
     let parent = folder::field(graph::node_size(vars), nb, n, PARENT);
-    let end = wide(reaches[n]);
+    let end = usize::from(reaches[n]);
     mark_reach(vars, nb, n, parent, end, marks);
     let low = if end == 0 {
         work::smaller(n, parent)
@@ -87,13 +78,9 @@ fn grow_label(m: &[u8], nb: &[u8], marks: &mut [u8], reaches: &[u16], w: Work, n
     };
     let high = work::larger(work::larger(n, parent) + 1, end);
     Work {
-        nodes: w.nodes,
-        len: w.len,
-        fresh: w.fresh,
         low,
         high: work::larger(w.high, high),
-        next: w.next,
-        waiting: w.waiting,
+        ..w
     }
 }
 
@@ -108,13 +95,11 @@ fn make_drop(vars: usize, nb: &mut [u8], marks: &mut [u8], w: Work, n: usize) ->
     nodes::become_kind(vars, nb, n, WAITING, 0);
     marks[n] = 0;
     Work {
-        nodes: w.nodes,
-        len: w.len,
-        fresh: w.fresh,
         low: n,
         high: work::larger(w.high, n),
         next: work::smaller(w.next, n),
         waiting: w.waiting + 1,
+        ..w
     }
 }
 
@@ -138,7 +123,7 @@ fn make_cover(
     nodes::become_kind(vars, nb, n, COVERED, c);
     nodes::put_field(vars, nb, n, STATE + vars, c);
     marks[n] = 1;
-    reaches[c] = work::larger(wide(reaches[c]), n + 1) as u16;
+    reaches[c] = work::larger(usize::from(reaches[c]), n + 1) as u16;
     work::grown_work(w.nodes, w.len, MOST_NODES, w.waiting - 1, n)
 }
 
@@ -166,8 +151,8 @@ fn make_expanded(
     w: Work,
     n: usize,
 ) -> Work
-    requires { Ready m.now longest w nb.old marks.old reaches.now begins.old (some (expand n)) }
-    ensures { Made m.now longest w nb.old (some (expand n)) result nb.new marks.new reaches.now begins.new }
+    requires { Ready m.now longest w nb.old marks.old reaches.now begins.old (Some (expand n)) }
+    ensures { Made m.now longest w nb.old (Some (expand n)) result nb.new marks.new reaches.now begins.new }
 {
     let vars = graph::variable_count(m);
     let mut state = [0i64; MOST_EXPRESSIONS];
@@ -206,9 +191,8 @@ pub fn make(
     w: Work,
     mv: Move,
 ) -> Work
-    requires ready { Ready m.now longest w nb.old marks.old reaches.old begins.old (told mv) }
-    requires mv_value { there (told mv) ≡ true }
-    ensures { Made m.now longest w nb.old (told mv) result nb.new marks.new reaches.new begins.new }
+    requires { Ready m.now longest w nb.old marks.old reaches.old begins.old (Some (told mv)) }
+    ensures { Made m.now longest w nb.old (Some (told mv)) result nb.new marks.new reaches.new begins.new }
 {
     let vars = graph::variable_count(m);
     match mv {
@@ -224,6 +208,5 @@ pub fn make(
         Move::Cover(n, c) => make_cover(vars, nb, marks, reaches, w, n, c),
         Move::Reach(n) => make_target(vars, nb, marks, w, n),
         Move::Expand(n) => make_expanded(m, nb, marks, reaches, begins, longest, w, n),
-        Move::Nothing => w,
     }
 }

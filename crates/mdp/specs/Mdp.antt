@@ -1,8 +1,7 @@
 -- Markov decision processes with whole-number weights, and document 01's "Chances as whole numbers".
 -- Assumes nothing.
-use Rattle.std.specs.Prelude.{ℕ, zero, suc, ◌*◌, ◌^◌, ◌<◌, ◌≡◌, Bool, true}
+use Rattle.std.specs.Prelude.{ℕ, zero, suc, ◌*◌, ◌^◌, ◌<◌, ◌≡◌, Bool, true, if◌then◌else◌}
 use Rattle.mdp.specs.Sums.{sum, greatest}
-use Rattle.std.specs.Prelude.{if◌then◌else◌}
 
 -- Document 01, "Models". Commands are numbered from 0, and so are the branches of a command. `total` is D: the chance
 -- of a branch is its weight / D.

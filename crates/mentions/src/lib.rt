@@ -3,43 +3,22 @@
 
 #![tactic(auto)]
 
-ghost use Rattle.std.specs.Prelude.{◌≡◌, ◌^◌, ◌<◌, ◌≤◌, length, get_or};
+ghost use Rattle.std.specs.Prelude.{◌≡◌, ◌≤◌, length, get_or};
 ghost use Rattle.folder.specs.Fields.{field_limit};
 ghost use Rattle.folder.specs.Contents.{count_of};
 ghost use Rattle.folder.specs.Tab.{fill};
-ghost use Rattle.expressions.specs.Limits.{most_variables};
 ghost use Rattle.expressions.specs.Entries.{entries_of};
 ghost use Rattle.expressions.specs.Levels.{number, truth};
-ghost use Rattle.expressions.specs.Mentions.{union, mentioning, mentions, is_free, missing};
+ghost use Rattle.expressions.specs.Mentions.{mentioning, mentions, is_free, missing};
 ghost use Rattle.mentions.specs.Masked.{Written, Masked};
 
 use expressions::{NO_VARIABLE, NumberForm, TruthForm};
 
-// What is in either of two sets; the set of variable i alone.
-fn union_of(a: u16, b: u16) -> u16
-    ensures { result ≡ union a b }
-{
-    a | b
-}
-
-fn bit_of(i: usize) -> u16
-    requires { i < most_variables }
-    ensures { result ≡ 2 ^ i }
-{
-    1 << i
-}
-
 // The set at place e of a row; past its end, none.
-fn set_at(masks: &[u16], e: usize) -> u16
-    ensures { result ≡ get_or masks.now e 0 }
-{
-    if e < masks.len() { masks[e] } else { 0 }
-}
-
 pub fn mask_at(masks: &[u16], e: usize) -> usize
     ensures { result ≡ get_or masks.now e 0 }
 {
-    set_at(masks, e) as usize
+    usize::from(folder::get_or(masks, e, 0))
 }
 
 // What entry e mentions, as a number and as a truth, from the row of the entries below it.
@@ -52,13 +31,11 @@ fn mention_number(x: &[u8], masks: &[u16], e: usize) -> u16
     let f = expressions::number_form(x, e);
     match f {
         NumberForm::Constant(_) => 0,
-        NumberForm::Variable(i) => bit_of(i),
-        NumberForm::Binary(_, p, q) => union_of(set_at(masks, p), set_at(masks, q)),
+        NumberForm::Variable(i) => 1 << i,
+        NumberForm::Binary(_, p, q) => folder::get_or(masks, p, 0) | folder::get_or(masks, q, 0),
         NumberForm::If(c, p, q) => {
-            union_of(
-                set_at(masks, c),
-                union_of(set_at(masks, p), set_at(masks, q)),
-            )
+            folder::get_or(masks, c, 0)
+                | (folder::get_or(masks, p, 0) | folder::get_or(masks, q, 0))
         }
         NumberForm::NoNumber => 0,
     }
@@ -72,9 +49,9 @@ fn mention_truth(x: &[u8], masks: &[u16], e: usize) -> u16
 {
     let f = expressions::truth_form(x, e);
     match f {
-        TruthForm::Compare(_, p, q) => union_of(set_at(masks, p), set_at(masks, q)),
-        TruthForm::Not(p) => set_at(masks, p),
-        TruthForm::Joined(_, p, q) => union_of(set_at(masks, p), set_at(masks, q)),
+        TruthForm::Compare(_, p, q) => folder::get_or(masks, p, 0) | folder::get_or(masks, q, 0),
+        TruthForm::Not(p) => folder::get_or(masks, p, 0),
+        TruthForm::Joined(_, p, q) => folder::get_or(masks, p, 0) | folder::get_or(masks, q, 0),
         TruthForm::Always => 0,
         TruthForm::NoTruth => 0,
     }
@@ -87,13 +64,8 @@ pub fn fill_mentions(x: &[u8], masks: &mut [u16])
     requires x_in_bounds { count_of 8 x.now ≤ length masks.old }
     ensures { masks.new ≡ fill (count_of 8 x.now) (mentions (entries_of x.now)) masks.old }
 {
-    let n = folder::count_of(8, x);
-    let mut e = 0;
-    while e < n {
-        let a = mention_number(x, masks, e);
-        let b = mention_truth(x, masks, e);
-        masks[e] = union_of(a, b);
-        e += 1;
+    for e in 0..folder::count_of(8, x) {
+        masks[e] = mention_number(x, masks, e) | mention_truth(x, masks, e);
     }
 }
 
@@ -104,16 +76,10 @@ pub fn is_free(m: usize, t: usize, v: usize) -> bool
     expressions::has_bit(m, v) & !expressions::has_bit(t, v)
 }
 
-// The lowest such variable of n.
+// The lowest such variable of n; where there is none, the number that the table of refusals returns then.
 pub fn missing_of(n: usize, m: usize, t: usize) -> usize
     ensures { result ≡ missing n m t }
 {
-    let mut v = 0;
-    while v < n {
-        if is_free(m, t, v) {
-            return v;
-        }
-        v += 1;
-    }
-    NO_VARIABLE
+    let v = folder::first_bad(n, |v| !is_free(m, t, v));
+    if v < n { v } else { NO_VARIABLE }
 }

@@ -9,7 +9,6 @@ use lib.IntN.{ℤ, pos}
 use Rattle.mdp.specs.Mdp.{Fair}
 use Rattle.mdp.proofs.SumLaws.{sum_more}
 use Rattle.folder.proofs.TabLaws.{length-tab, get_or-tab}
-use Rattle.folder.specs.declared.Outcome.TheVariants.{Accepted}
 use Rattle.expressions.specs.Meaning.{State, value_of, number_in}
 use Rattle.expressions.specs.Ranges.{span}
 use Rattle.expressions.proofs.Interval.{In, in-bound-of, in-range, in-inside}
@@ -18,6 +17,7 @@ use Rattle.model.specs.Chances.{InRange, next, initial_state, mdp}
 use Rattle.model.specs.Valid.{ModelRight}
 use Rattle.model.specs.Step.{step_outcome}
 use Rattle.model.proofs.Decided.{step-valid}
+use Rattle.std.specs.Prelude.{Ok}
 
 module _ (M : Model) where
   bound-here : (v : ℕ) → v < M.variables → bound M v ≡ span (M.low v) (M.high v)
@@ -59,7 +59,7 @@ module _ (M : Model) where
     }
 
 -- An accepted step's state is in range.
-pub step-in-range : (m : List ℕ) (s : State) (c b : ℕ) (result : List ℤ) → step_outcome m s c b result ≡ Accepted → InRange (model_of m) (next (model_of m) c b s)
+pub step-in-range : (m : List ℕ) (s : State) (c b : ℕ) (result : List ℤ) → step_outcome m s c b result ≡ (Ok tt) → InRange (model_of m) (next (model_of m) c b s)
 step-in-range m s c b result e =
     let v = (step-valid m s c b result).0 e in
     let r = v.1 in

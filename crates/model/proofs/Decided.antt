@@ -12,7 +12,6 @@ use Rattle.mdp.specs.Sums.{sum}
 use Rattle.folder.specs.Contents.{body}
 use Rattle.folder.specs.Table.{AllHold, Broken}
 use Rattle.folder.specs.declared.Refusal.{Refusal}
-use Rattle.folder.specs.declared.Outcome.TheVariants.{Accepted, Refused}
 use Rattle.folder.proofs.Decides.{Decides, passes, at_most, at_most_z, below, same, unless, whenever, ◌∧also◌, everywhere, reworded}
 use Rattle.folder.proofs.ContentsLaws.{entry-decided as contents-decided}
 use Rattle.folder.proofs.TableLaws.{refused-broken, row-asks, single-asks, ◌row-and◌, no_rows, put-so, tables-ask, accepted-asks}
@@ -27,6 +26,7 @@ use Rattle.model.specs.Rules.{bytes_fit, records_fit, variable_fits, terms_fit, 
 use Rattle.model.specs.Table.{folder_rows, content_rows, model_rows, model_outcome}
 use Rattle.model.specs.Valid.{RecordsRight, VariableRight, CommandRight, BranchRight, ModelRight, FolderRight, Valid, StepRight}
 use Rattle.model.specs.Step.{value_fits, step_rows, step_outcome}
+use Rattle.std.specs.Prelude.{Err, Ok}
 
 pub bytes-decided : (m : List ℕ) → Decides ((least_bytes ≤ length m) × (length m ≤ most_bytes)) (bytes_fit m)
 bytes-decided m = at_most least_bytes (length m) ∧also at_most (length m) most_bytes
@@ -115,12 +115,12 @@ model-asks m = put-so
     (λ v. (v.folder, v.model))
 
 -- The model check accepts if and only if the folder and model rules hold.
-pub accepted-valid : (m : List ℕ) → (model_outcome m ≡ Accepted) ↔ Valid m
+pub accepted-valid : (m : List ℕ) → (model_outcome m ≡ (Ok tt)) ↔ Valid m
 unfolding model_outcome
 accepted-valid m = accepted-asks (model-asks m)
 
 -- A refusal is of the first broken row, at its lowest broken place, and each row before it holds.
-pub refused-first : (m : List ℕ) (f : Refusal) → model_outcome m ≡ Refused f → Broken (model_rows m) f
+pub refused-first : (m : List ℕ) (f : Refusal) → model_outcome m ≡ Err f → Broken (model_rows m) f
 unfolding model_outcome
 refused-first m f e = refused-broken (model_rows m) f e
 
@@ -151,11 +151,11 @@ step-asks M s c b result = put-so
 
 -- The step is accepted if and only if the model is and rows 29 to 33 hold.
 pub step-valid : (m : List ℕ) (s : State) (c b : ℕ) (result : List ℤ)
-    → (step_outcome m s c b result ≡ Accepted) ↔ (Valid m × StepRight (model_of m) s c b result)
+    → (step_outcome m s c b result ≡ (Ok tt)) ↔ (Valid m × StepRight (model_of m) s c b result)
 unfolding step_outcome
 step-valid m s c b result = accepted-asks (tables-ask (model_rows m) (model-asks m) (step-asks (model_of m) s c b result))
 
 pub step-refused : (m : List ℕ) (s : State) (c b : ℕ) (result : List ℤ) (f : Refusal)
-    → step_outcome m s c b result ≡ Refused f → Broken (model_rows m ++ step_rows (model_of m) s c b result) f
+    → step_outcome m s c b result ≡ Err f → Broken (model_rows m ++ step_rows (model_of m) s c b result) f
 unfolding step_outcome
 step-refused m s c b result f e = refused-broken (model_rows m ++ step_rows (model_of m) s c b result) f e

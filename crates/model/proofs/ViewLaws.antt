@@ -10,25 +10,24 @@ use borrow.Author.Tests.{ltb-true, le-ltb}
 use lib.Dec.{ltb}
 use lib.ListN.{length, take, drop}
 use Rattle.folder.specs.Contents.{start_of, body, count_of}
-use Rattle.folder.specs.Table.{outcome}
-use Rattle.folder.specs.declared.Outcome.{Outcome}
-use Rattle.folder.specs.declared.Outcome.TheVariants.{Accepted, Refused}
+use Rattle.folder.specs.Table.{outcome, Outcome}
 use Rattle.folder.proofs.ContentsLaws.{body-said, record-within}
 use Rattle.folder.proofs.Decides.{and_both}
 use Rattle.folder.proofs.TableLaws.{accepted-asks}
 use Rattle.model.specs.Layout.{bodies, record_size, record_count}
 use Rattle.model.specs.Table.{folder_rows}
 use Rattle.model.specs.Valid.{FolderRight}
-use Rattle.model.specs.View.{is_accepted, record_there, view_start, view_length, view_part}
+use Rattle.model.specs.View.{record_there, view_start, view_length, view_part}
 use Rattle.model.proofs.Decided.{folder-asks}
+use Rattle.std.specs.Prelude.{Err, Ok, is_ok}
 
-pub accepted-is : (o : Outcome) → is_accepted o ≡ true → o ≡ Accepted
-accepted-is Accepted h = refl
-accepted-is (Refused f) h = absurd (false≢true h)
+pub accepted-is : (o : Outcome) → is_ok o ≡ true → o ≡ (Ok tt)
+accepted-is (Ok _) h = refl
+accepted-is (Err f) h = absurd (false≢true h)
 
 pub no_body : (m : List ℕ) (e i : ℕ) → bodies ≤ e → false ≡ record_there m e i
 unfolding record_there
-no_body m e i l = rw (le-ltb e bodies l) (sym (and-false (is_accepted (outcome (folder_rows m)))))
+no_body m e i l = rw (le-ltb e bodies l) (sym (and-false (is_ok (outcome (folder_rows m)))))
 
 -- A pointer moved on by as much, and by nothing.
 pub moved : (p : ℕ × ℕ) {a b : ℕ} → a ≡ b → ◌≡◌ {A = ℕ × ℕ} (p.0, a + p.1) (p.0, b + p.1)
@@ -39,7 +38,7 @@ unmoved p e = rw (e, zero-add) refl
 
 -- The code has the record's size and its body's start, as it reads them.
 module _ (m : List ℕ) (e i : ℕ) (h : record_there m e i ≡ true) where
-  parts : (is_accepted (outcome (folder_rows m)) ≡ true) × ((ltb e bodies ≡ true) × (ltb i (record_count m e) ≡ true))
+  parts : (is_ok (outcome (folder_rows m)) ≡ true) × ((ltb e bodies ≡ true) × (ltb i (record_count m e) ≡ true))
   unfolding record_there
   parts = let p = and_both _ _ h in (p.0, and_both _ _ p.1)
 

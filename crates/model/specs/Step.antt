@@ -1,9 +1,7 @@
 -- The step of a state by command and branch: rows 29 to 33, after the model's, and the content of the result row.
 -- Assumes nothing.
-use Rattle.std.specs.Prelude.{ℕ, Bool, ◌&&◌, List, [], ◌∷◌, ◌++◌, length, drop, ltb, leb, eqb, ℤ}
-use Rattle.folder.specs.Table.{Row, row, single, outcome}
-use Rattle.folder.specs.declared.Outcome.{Outcome}
-use Rattle.folder.specs.declared.Outcome.TheVariants.{Accepted, Refused}
+use Rattle.std.specs.Prelude.{ℕ, Bool, ◌&&◌, List, [], ◌∷◌, ◌++◌, length, drop, ltb, leb, eqb, ℤ, Err, Ok}
+use Rattle.folder.specs.Table.{Row, row, single, outcome, Outcome}
 use Rattle.expressions.specs.Meaning.{State, value_of, truth_in}
 use Rattle.model.specs.Model.{Model, model_of}
 use Rattle.model.specs.Rules.{between}
@@ -30,8 +28,8 @@ module _ (M : Model) (s : State) (c b : ℕ) (result : List ℤ) where
 
   -- The result row at exit: the new state stands first, and the later elements stay; refused, all of it stays.
   abbrev pub step_row_of : Outcome → List ℤ
-  step_row_of Accepted = next M c b s ++ drop M.variables result
-  step_row_of (Refused f) = result
+  step_row_of (Ok _) = next M c b s ++ drop M.variables result
+  step_row_of (Err f) = result
 
 -- What the step answers.
 unfoldable pub step_outcome : List ℕ → State → ℕ → ℕ → List ℤ → Outcome

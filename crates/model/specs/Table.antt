@@ -2,8 +2,7 @@
 -- Assumes nothing.
 use Rattle.std.specs.Prelude.{ℕ, List, [], ◌∷◌, ◌++◌}
 use Rattle.folder.specs.Contents.{entry_ok}
-use Rattle.folder.specs.Table.{Row, row, single, outcome}
-use Rattle.folder.specs.declared.Outcome.{Outcome}
+use Rattle.folder.specs.Table.{Row, row, single, outcome, Outcome}
 use Rattle.expressions.specs.Rules.{entry_fits, range_fits}
 use Rattle.model.specs.Layout.{bodies}
 use Rattle.model.specs.Model.{Model, model_of, bound}

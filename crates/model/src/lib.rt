@@ -10,10 +10,10 @@ ghost use Rattle.model.specs.Layout.{select, variable_count, record_size, record
 ghost use Rattle.model.specs.Model.{first_record, model_in};
 ghost use Rattle.model.specs.Rules.{bytes_fit, records_fit};
 ghost use Rattle.model.specs.Table.{folder_rows};
-ghost use Rattle.model.specs.View.{is_accepted, record_there, view_start, view_part};
+ghost use Rattle.model.specs.View.{record_there, view_start, view_part};
 
 use expressions::{MOST_EXPRESSIONS, MOST_VARIABLES};
-use folder::Outcome;
+use folder::Refusal;
 
 // Document 01's limits: bytes of the folder, records of the bodies (variables and expressions: in the crate
 // `expressions`), branches of a command, and a variable's bounds.
@@ -51,12 +51,14 @@ pub fn select(
     }
 }
 
+#[tactic(auto, unfolding(folder::specs::Contents::count_of))]
 pub fn variable_count(m: &[u8]) -> usize
     ensures { (result ≡ variable_count m.now) × (result < 2 ^ 62) }
 {
     folder::count_of(6, folder::body(m, 1))
 }
 
+#[tactic(auto, unfolding(crate::specs::Layout::record_size))]
 pub fn record_size(m: &[u8], e: usize) -> usize
     requires { e < 5 }
     ensures { (result ≡ record_size m.now e) × (0 < result) }
@@ -64,6 +66,7 @@ pub fn record_size(m: &[u8], e: usize) -> usize
     select(e, 4, 6, 8, 4, 2 + 2 * variable_count(m))
 }
 
+#[tactic(auto, unfolding(crate::specs::Layout::record_count))]
 pub fn record_count(m: &[u8], e: usize) -> usize
     requires { e < 5 }
     ensures { result ≡ record_count m.now e }
@@ -79,6 +82,7 @@ fn bytes_fit(m: &[u8]) -> bool
 }
 
 // Row 3, body e.
+#[tactic(auto, unfolding(crate::specs::Layout::record_count, crate::specs::Rules::records_fit))]
 fn records_fit(m: &[u8], e: usize) -> bool
     requires { e < 5 }
     ensures { result ≡ records_fit m.now e }
@@ -97,70 +101,33 @@ fn records_fit(m: &[u8], e: usize) -> bool
     ((b.len() % size == 0) & (1 <= n)) & (n <= most)
 }
 
-fn first_bad_records(m: &[u8]) -> usize
-    ensures { result ≡ first_bad (records_fit m.now) 5 }
-{
-    let mut e = 0;
-    while e < 5 {
-        if records_fit(m, e) {
-            e += 1;
-        } else {
-            return e;
-        }
-    }
-    e
-}
-
 // The first branch record of command n, by the command body k.
 pub fn first_record(k: &[u8], n: usize) -> usize
     requires { n ≤ field_limit }
     ensures { result ≡ first_record (model_in [] [] [] k.now []) n }
 {
     let mut sum = 0;
-    let mut c = 0;
-    while c < n {
+    for c in 0..n {
         sum += folder::field(4, k, c, 1);
-        c += 1;
     }
     sum
 }
 
 // Rows 1 to 3: the bytes are a folder of five bodies of records.
-pub fn check_folder(m: &[u8]) -> Outcome
+#[tactic(auto, unfolding(folder::specs::Table::outcome))]
+pub fn check_folder(m: &[u8]) -> Result<(), Refusal>
     ensures { result ≡ outcome (folder_rows m.now) }
 {
-    let p1 = folder::only_place(bytes_fit(m));
-    if p1 < 1 {
-        return folder::refuse(1, 0);
-    }
-    let p2 = folder::first_bad_entry(m, 5);
-    if p2 < 5 {
-        return folder::refuse(2, p2);
-    }
-    let p3 = first_bad_records(m);
-    if p3 < 5 {
-        return folder::refuse(3, p3);
-    }
-    Outcome::Accepted
+    folder::check(1, 0, bytes_fit(m))?;
+    folder::check_scan(2, 5, folder::first_bad_entry(m, 5))?;
+    folder::check_each(3, 5, |e| records_fit(m, e))
 }
 
-pub fn is_accepted(o: Outcome) -> bool
-    ensures { result ≡ is_accepted o }
-{
-    match o {
-        Outcome::Accepted => true,
-        Outcome::Refused(_) => false,
-    }
-}
-
+#[tactic(auto, unfolding(crate::specs::View::record_there))]
 fn record_there(m: &[u8], e: usize, i: usize) -> bool
     ensures { result ≡ record_there m.now e i }
 {
-    if e < 5 {
-        is_accepted(check_folder(m)) & (i < record_count(m, e))
-    } else {
-        false
-    }
+    e < 5 && check_folder(m).is_ok() && i < record_count(m, e)
 }
 
 // The view: record i of body e, as a part of the folder. Where there is none, the empty part at its start.

@@ -1,3 +1,2 @@
-mod BodyLaws
 mod AssignLaws
 mod CheckLaws

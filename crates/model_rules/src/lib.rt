@@ -2,192 +2,127 @@
 
 #![tactic(auto)]
 
-ghost use Rattle.std.specs.Prelude.{◌≡◌, [], ◌+◌, ◌≤◌, drop};
+ghost use Rattle.std.specs.Prelude.{◌≡◌, ◌+◌, ◌≤◌, drop};
 ghost use Rattle.mdp.specs.Sums.{sum};
 ghost use Rattle.folder.specs.Fields.{field_limit};
 ghost use Rattle.folder.specs.Scan.{first_bad};
-ghost use Rattle.folder.specs.Contents.{body, count_of, field};
+ghost use Rattle.folder.specs.Contents.{count_of, field};
 ghost use Rattle.folder.specs.Table.{outcome};
 ghost use Rattle.expressions.specs.Entries.{entries_of};
 ghost use Rattle.expressions.specs.Ranges.{bound_in};
 ghost use Rattle.model.specs.Limits.{most_variables};
-ghost use Rattle.model.specs.Layout.{variable_count};
-ghost use Rattle.model.specs.Model.{model_of, first_record, model_in};
+ghost use Rattle.model.specs.Layout.{branch_size};
+ghost use Rattle.model.specs.Model.{model_of, first_record};
 ghost use Rattle.model.specs.Rules.{variable_fits, terms_fit, command_fits, records_add_up, stays_in, assigned_fits, branch_fits, weights_total};
 ghost use Rattle.model.specs.Table.{content_rows, model_outcome};
 ghost use Rattle.model.specs.Valid.{FolderRight};
-ghost use Rattle.model_rules.specs.Bodies.{Held};
+ghost use Rattle.model_rules.specs.Bodies.{Held, model_held};
+
+mod parts;
 
 use expressions::MOST_EXPRESSIONS;
-use folder::Outcome;
+use folder::Refusal;
 use model::{LEAST_BOUND, MOST_BOUND, MOST_BRANCHES};
+use parts::Bodies;
 
-// Row 4, variable v of the variable body y.
-fn variable_fits(y: &[u8], v: usize) -> bool
-    requires { v ≤ field_limit }
-    ensures { result ≡ variable_fits (model_in [] y.now [] [] []) v }
+fn bodies_of(m: &[u8]) -> Bodies<'_>
+    requires { FolderRight m.now }
+    ensures { model_held result ≡ model_of m.now }
 {
-    let low = folder::signed_field(6, y, v, 0);
-    let high = folder::signed_field(6, y, v, 1);
-    let initial = folder::signed_field(6, y, v, 2);
+    Bodies {
+        terms: folder::body(m, 0),
+        variables: folder::body(m, 1),
+        expressions: folder::body(m, 2),
+        commands: folder::body(m, 3),
+        branches: folder::body(m, 4),
+    }
+}
+
+// Row 4, variable v.
+#[tactic(auto, unfolding(model::specs::Rules::variable_fits))]
+fn variable_fits(b: &Bodies<'_>, v: usize) -> bool
+    requires { v ≤ field_limit }
+    ensures { result ≡ variable_fits (model_held b.now) v }
+{
+    let low = folder::signed_field(6, b.variables, v, 0);
+    let high = folder::signed_field(6, b.variables, v, 1);
+    let initial = folder::signed_field(6, b.variables, v, 2);
     (low <= high)
         & (((LEAST_BOUND <= low) & (high <= MOST_BOUND)) & ((low <= initial) & (initial <= high)))
 }
 
-fn first_bad_variable(m: &[u8], n: usize) -> usize
-    requires { n ≤ field_limit }
-    ensures { result ≡ first_bad (variable_fits (model_of m.now)) n }
+// Row 7, place p.
+#[tactic(auto, unfolding(model::specs::Rules::terms_fit))]
+fn terms_fit(b: &Bodies<'_>, p: usize) -> bool
+    ensures { result ≡ terms_fit (model_held b.now) p }
 {
-    let y = folder::body(m, 1);
-    let mut v = 0;
-    while v < n {
-        if variable_fits(y, v) {
-            v += 1;
-        } else {
-            return v;
-        }
-    }
-    v
+    let total = folder::field(4, b.terms, 0, 0);
+    let target = folder::field(4, b.terms, 0, 1);
+    ((p != 0) | (total != 0)) & ((p != 1) | expressions::is_truth(b.expressions, target))
 }
 
-// Row 7, place p, by the term body t and the expression body x.
-fn terms_fit(t: &[u8], x: &[u8], p: usize) -> bool
-    ensures { result ≡ terms_fit (model_in t.now [] x.now [] []) p }
-{
-    let total = folder::field(4, t, 0, 0);
-    let target = folder::field(4, t, 0, 1);
-    ((p != 0) | (total != 0)) & ((p != 1) | expressions::is_truth(x, target))
-}
-
-fn first_bad_term(m: &[u8]) -> usize
-    ensures { result ≡ first_bad (terms_fit (model_of m.now)) 2 }
-{
-    let t = folder::body(m, 0);
-    let x = folder::body(m, 2);
-    let mut p = 0;
-    while p < 2 {
-        if terms_fit(t, x, p) {
-            p += 1;
-        } else {
-            return p;
-        }
-    }
-    p
-}
-
-// Row 8, command c of the command body k.
-fn command_fits(x: &[u8], k: &[u8], c: usize) -> bool
+// Row 8, command c.
+#[tactic(auto, unfolding(model::specs::Rules::command_fits))]
+fn command_fits(b: &Bodies<'_>, c: usize) -> bool
     requires { c ≤ field_limit }
-    ensures { result ≡ command_fits (model_in [] [] x.now k.now []) c }
+    ensures { result ≡ command_fits (model_held b.now) c }
 {
-    let guard = folder::field(4, k, c, 0);
-    let branches = folder::field(4, k, c, 1);
-    expressions::is_truth(x, guard) & ((1 <= branches) & (branches <= MOST_BRANCHES))
-}
-
-fn first_bad_command(m: &[u8], n: usize) -> usize
-    requires { n ≤ field_limit }
-    ensures { result ≡ first_bad (command_fits (model_of m.now)) n }
-{
-    let x = folder::body(m, 2);
-    let k = folder::body(m, 3);
-    let mut c = 0;
-    while c < n {
-        if command_fits(x, k, c) {
-            c += 1;
-        } else {
-            return c;
-        }
-    }
-    c
+    let guard = folder::field(4, b.commands, c, 0);
+    let branches = folder::field(4, b.commands, c, 1);
+    expressions::is_truth(b.expressions, guard) & ((1 <= branches) & (branches <= MOST_BRANCHES))
 }
 
 // Row 9.
-fn records_add_up(m: &[u8]) -> bool
-    requires { count_of 4 (body m.now 3) ≤ field_limit }
-    ensures { result ≡ records_add_up (model_of m.now) }
+fn records_add_up(b: &Bodies<'_>, records: usize) -> bool
+    requires { records ≡ (model_held b.now).records }
+    ensures { result ≡ records_add_up (model_held b.now) }
 {
-    let k = folder::body(m, 3);
-    model::record_count(m, 4) == model::first_record(k, folder::count_of(4, k))
+    records == model::first_record(b.commands, folder::count_of(4, b.commands))
 }
 
 // Entry e is a number, and its range, which the rows hold, stays in that of variable v.
-fn stays_in(x: &[u8], y: &[u8], lows: &[i64], highs: &[i64], e: usize, v: usize) -> bool
-    requires held { Held x.now y.now lows.now highs.now }
+fn stays_in(b: &Bodies<'_>, lows: &[i64], highs: &[i64], e: usize, v: usize) -> bool
+    requires held { Held b.now.expressions.now b.now.variables.now lows.now highs.now }
     requires e_le_field_limit { (e ≤ field_limit) × (v ≤ field_limit) }
-    ensures { result ≡ stays_in (entries_of x.now) (bound_in y.now) e v }
+    ensures { result ≡ stays_in (entries_of b.now.expressions.now) (bound_in b.now.variables.now) e v }
 {
-    if expressions::is_number(x, e) {
-        let to = ranges::bound_at(y, v);
+    if expressions::is_number(b.expressions, e) {
+        let to = ranges::bound_at(b.variables, v);
         ranges::is_inside(lows[e], highs[e], to.low, to.high)
     } else {
         false
     }
 }
 
-// The lowest of the n variables whose assigned entry in branch record r does not fit, or n.
-fn first_bad_assigned(
-    x: &[u8],
-    y: &[u8],
-    b: &[u8],
+// What branch record r assigns to variable v fits.
+#[tactic(auto, unfolding(model::specs::Rules::assigned_fits, model::specs::Model::bound, expressions::specs::Ranges::bound_in))]
+fn assigned_fits(
+    b: &Bodies<'_>,
     lows: &[i64],
     highs: &[i64],
+    size: usize,
     r: usize,
-    n: usize,
-) -> usize
-    requires held { Held x.now y.now lows.now highs.now }
-    requires n_value { (n ≡ count_of 6 y.now) × (n ≤ most_variables) × (r ≤ field_limit) }
-    ensures { result ≡ first_bad (assigned_fits (model_in [] y.now x.now [] b.now) r) n }
-{
-    let size = 2 + 2 * n;
-    let mut v = 0;
-    while v < n {
-        let e = folder::field(size, b, r, 1 + v);
-        if stays_in(x, y, lows, highs, e, v) {
-            v += 1;
-        } else {
-            return v;
-        }
-    }
-    v
-}
-
-// Row 10, branch record r of the branch body b, over n variables.
-fn branch_fits(
-    x: &[u8],
-    y: &[u8],
-    b: &[u8],
-    lows: &[i64],
-    highs: &[i64],
-    r: usize,
-    n: usize,
+    v: usize,
 ) -> bool
-    requires held { Held x.now y.now lows.now highs.now }
-    requires n_value { (n ≡ count_of 6 y.now) × (n ≤ most_variables) × (r ≤ field_limit) }
-    ensures { result ≡ branch_fits (model_in [] y.now x.now [] b.now) r }
+    requires held { Held b.now.expressions.now b.now.variables.now lows.now highs.now }
+    requires size_is { size ≡ branch_size (count_of 6 b.now.variables.now) }
+    requires few { (r ≤ field_limit) × (v ≤ most_variables) }
+    ensures { result ≡ assigned_fits (model_held b.now) r v }
 {
-    let weight = folder::field(2 + 2 * n, b, r, 0);
-    (weight != 0) & (first_bad_assigned(x, y, b, lows, highs, r, n) == n)
+    stays_in(b, lows, highs, folder::field(size, b.branches, r, 1 + v), v)
 }
 
-fn first_bad_branch(m: &[u8], lows: &[i64], highs: &[i64], n: usize) -> usize
-    requires held { Held (body m.now 2) (body m.now 1) lows.now highs.now }
-    requires m_bound { (variable_count m.now ≤ most_variables) × (n ≤ field_limit) }
-    ensures { result ≡ first_bad (branch_fits (model_of m.now)) n }
+// Row 10, branch record r.
+#[tactic(auto, unfolding(model::specs::Rules::branch_fits))]
+fn branch_fits(b: &Bodies<'_>, lows: &[i64], highs: &[i64], r: usize) -> bool
+    requires held { Held b.now.expressions.now b.now.variables.now lows.now highs.now }
+    requires few { r ≤ field_limit }
+    ensures { result ≡ branch_fits (model_held b.now) r }
 {
-    let x = folder::body(m, 2);
-    let y = folder::body(m, 1);
-    let b = folder::body(m, 4);
-    let variables = folder::count_of(6, y);
-    let mut r = 0;
-    while r < n {
-        if branch_fits(x, y, b, lows, highs, r, variables) {
-            r += 1;
-        } else {
-            return r;
-        }
-    }
-    r
+    let n = folder::count_of(6, b.variables);
+    let size = 2 + 2 * n;
+    let weight = folder::field(size, b.branches, r, 0);
+    (weight != 0) & folder::all(n, |v| assigned_fits(b, lows, highs, size, r, v))
 }
 
 // The sum of the weights of n branch records from `first` on.
@@ -196,111 +131,70 @@ fn weight_sum(size: usize, b: &[u8], first: usize, n: usize) -> usize
     ensures { result ≡ sum n (λ i _. field size b.now (first + i) 0) }
 {
     let mut sum = 0;
-    let mut i = 0;
-    while i < n {
+    for i in 0..n {
         sum += folder::field(size, b, first + i, 0);
-        i += 1;
     }
     sum
 }
 
-// Row 11: `at` walks the branch records with the commands.
-fn first_bad_total(m: &[u8], n: usize) -> usize
-    requires { (variable_count m.now ≤ most_variables) × (n ≤ field_limit) × (first_record (model_of m.now) n ≤ field_limit) }
-    ensures { result ≡ first_bad (weights_total (model_of m.now)) n }
+// Row 11: `at` walks the branch records with the n commands.
+fn first_bad_total(b: &Bodies<'_>, n: usize) -> usize
+    requires n_value { n ≡ (model_held b.now).commands }
+    requires few { first_record (model_held b.now) n ≤ field_limit }
+    ensures { result ≡ first_bad (weights_total (model_held b.now)) n }
 {
-    let total = folder::field(4, folder::body(m, 0), 0, 0);
-    let size = 2 + 2 * model::variable_count(m);
-    let k = folder::body(m, 3);
-    let b = folder::body(m, 4);
-    let mut c = 0;
+    let total = folder::field(4, b.terms, 0, 0);
+    let size = 2 + 2 * folder::count_of(6, b.variables);
     let mut at = 0;
-    while c < n {
-        let branches = folder::field(4, k, c, 1);
-        if weight_sum(size, b, at, branches) == total {
-            at += branches;
-            c += 1;
-        } else {
+    for c in 0..n {
+        let branches = folder::field(4, b.commands, c, 1);
+        if weight_sum(size, b.branches, at, branches) != total {
             return c;
         }
+        at += branches;
     }
-    c
+    n
 }
 
-// Rows 9 to 11 of a model whose folder rows hold. The rows `lows` and `highs` hold the ranges of its entries.
-fn check_branches(m: &[u8], lows: &[i64], highs: &[i64]) -> Outcome
-    requires folder_right { FolderRight m.now }
-    requires held { Held (body m.now 2) (body m.now 1) lows.now highs.now }
-    ensures { result ≡ outcome (drop 5 (content_rows (model_of m.now))) }
+// Rows 7 to 11. The rows `lows` and `highs` hold the ranges of the entries.
+#[tactic(auto, unfolding(folder::specs::Table::outcome))]
+fn check_commands(b: &Bodies<'_>, lows: &[i64], highs: &[i64]) -> Result<(), Refusal>
+    requires held { Held b.now.expressions.now b.now.variables.now lows.now highs.now }
+    ensures { result ≡ outcome (drop 3 (content_rows (model_held b.now))) }
 {
-    let p9 = folder::only_place(records_add_up(m));
-    if p9 < 1 {
-        return folder::refuse(9, 0);
-    }
-    let records = model::record_count(m, 4);
-    let p10 = first_bad_branch(m, lows, highs, records);
-    if p10 < records {
-        return folder::refuse(10, p10);
-    }
-    let commands = model::record_count(m, 3);
-    let p11 = first_bad_total(m, commands);
-    if p11 < commands {
-        return folder::refuse(11, p11);
-    }
-    Outcome::Accepted
-}
-
-// Rows 7 and 8, and those after them.
-fn check_commands(m: &[u8], lows: &[i64], highs: &[i64]) -> Outcome
-    requires folder_right { FolderRight m.now }
-    requires held { Held (body m.now 2) (body m.now 1) lows.now highs.now }
-    ensures { result ≡ outcome (drop 3 (content_rows (model_of m.now))) }
-{
-    let p7 = first_bad_term(m);
-    if p7 < 2 {
-        return folder::refuse(7, p7);
-    }
-    let commands = model::record_count(m, 3);
-    let p8 = first_bad_command(m, commands);
-    if p8 < commands {
-        return folder::refuse(8, p8);
-    }
-    check_branches(m, lows, highs)
+    let commands = folder::count_of(4, b.commands);
+    let records = folder::count_of(2 + 2 * folder::count_of(6, b.variables), b.branches);
+    folder::check_each(7, 2, |p| terms_fit(b, p))?;
+    folder::check_each(8, commands, |c| command_fits(b, c))?;
+    folder::check(9, 0, records_add_up(b, records))?;
+    folder::check_each(10, records, |r| branch_fits(b, lows, highs, r))?;
+    folder::check_scan(11, commands, first_bad_total(b, commands))
 }
 
 // Rows 4 to 6, and those after them. Row 6 works out the range of each entry once, for row 10 too.
-fn check_entries(m: &[u8]) -> Outcome
-    requires { FolderRight m.now }
-    ensures { result ≡ outcome (content_rows (model_of m.now)) }
+#[tactic(auto, unfolding(folder::specs::Table::outcome, model::specs::Model::bound, expressions::specs::Ranges::bound_in))]
+fn check_contents(b: &Bodies<'_>) -> Result<(), Refusal>
+    ensures { result ≡ outcome (content_rows (model_held b.now)) }
 {
-    let variables = model::variable_count(m);
-    let p4 = first_bad_variable(m, variables);
-    if p4 < variables {
-        return folder::refuse(4, p4);
-    }
-    let x = folder::body(m, 2);
-    let entries = folder::count_of(8, x);
-    let p5 = entries::first_bad_entry(x, variables);
-    if p5 < entries {
-        return folder::refuse(5, p5);
-    }
-    let y = folder::body(m, 1);
+    let variables = folder::count_of(6, b.variables);
+    let entries = folder::count_of(8, b.expressions);
+    folder::check_each(4, variables, |v| variable_fits(b, v))?;
+    folder::check_scan(
+        5,
+        entries,
+        entries::first_bad_entry(b.expressions, variables),
+    )?;
     let mut lows = [0i64; MOST_EXPRESSIONS];
     let mut highs = [0i64; MOST_EXPRESSIONS];
-    let p6 = ranges::fill_ranges(x, y, &mut lows, &mut highs);
-    if p6 < entries {
-        return folder::refuse(6, p6);
-    }
-    check_commands(m, &lows, &highs)
+    let ranged = ranges::fill_ranges(b.expressions, b.variables, &mut lows, &mut highs);
+    folder::check_scan(6, entries, ranged)?;
+    check_commands(b, &lows, &highs)
 }
 
 // The model check: acceptance, or the first refusal of document 01's table.
-pub fn check_model(m: &[u8]) -> Outcome
+pub fn check_model(m: &[u8]) -> Result<(), Refusal>
     ensures { result ≡ model_outcome m.now }
 {
-    let o = model::check_folder(m);
-    match o {
-        Outcome::Accepted => check_entries(m),
-        Outcome::Refused(f) => Outcome::Refused(f),
-    }
+    model::check_folder(m)?;
+    check_contents(&bodies_of(m))
 }

@@ -60,11 +60,6 @@ module _ (vars : ℕ) (cs bs : List ℕ) (row : List ℤ) (parent k : ℕ) where
           is = λ d h t b l g m. next-is d h t b l g m (dec_lt d c);
         }
 
-  pub brood-over : {c commands : ℕ} {old new : List ℕ} → Brood vars cs bs row parent k c old new → c ≤ commands → commands ≤ c → Brood vars cs bs row parent k commands old new
-  brood-over {c} {commands} {old} {new} f p q =
-      let e : c ≡ commands = omega arith in
-      subst (λ (j : ℕ). Brood vars cs bs row parent k j old new) e f
-
 -- What is asked of a command's results, in the code's words: of those that are written.
 pub fits-as : (vars : ℕ) (bs : List ℕ) (row : List ℤ) {r s more n : ℕ} → r ≡ s → more ≤ n → AllFit vars bs row s n → AllFit vars bs row r more
 fits-as vars bs row p q f = rw p (record { each = λ i l. f.each i (omega arith) })

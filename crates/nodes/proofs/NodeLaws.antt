@@ -86,11 +86,6 @@ module _ (vars : ℕ) (bs : List ℕ) (row : List ℤ) (r parent k : ℕ) where
     pub node-next : {new : List ℕ} → new ≡ put_in vars nb k i u → Node vars bs row r parent k (i + 1) old new
     node-next z = subst (λ (x : List ℕ). Node vars bs row r parent k (i + 1) old x) (sym z) (record { stays = next-stays; within = omega arith; is = λ f q. next-is f q (dec_lt f i) })
 
-  pub node_over : {old new : List ℕ} {i : ℕ} → Node vars bs row r parent k i old new → state_field + vars + 1 ≤ i → Node vars bs row r parent k (new_fields vars bs row) old new
-  node_over {old} {new} {i} w l =
-      let e : i ≡ new_fields vars bs row = omega (arith, w.within) in
-      subst (λ (x : ℕ). Node vars bs row r parent k x old new) e w
-
 -- ---- the nodes of a command
 pub wider : (w a b : ℕ) → w * a ≤ w * (a + b)
 wider w a b = mul-le-mul_left w (omega arith)
@@ -113,11 +108,6 @@ module _ (vars : ℕ) (bs : List ℕ) (row : List ℤ) (r parent k : ℕ) where
       go i h g l (no d) =
           let z : i ≡ b = omega arith in
           subst (λ (j : ℕ). field (node_size vars) new (k + j) g ≡ new_field vars bs row (r + j) parent g) (sym z) (w.is g l)
-
-  pub family-over : {count b : ℕ} {old new : List ℕ} → Family vars bs row r parent k b old new → b ≤ count → count ≤ b → Family vars bs row r parent k count old new
-  family-over {count} {b} {old} {new} f p q =
-      let e : b ≡ count = omega arith in
-      subst (λ (j : ℕ). Family vars bs row r parent k j old new) e f
 
   pub family-room : {count b : ℕ} {old new : List ℕ} → Family vars bs row r parent k b old new → b < count → node_size vars * (k + count) ≤ length old → Whole vars new (k + b)
   family-room {count} {b} f l h = omega (arith, record-at (node_size vars) (k + b) (k + count) (omega arith), f.stays.long)

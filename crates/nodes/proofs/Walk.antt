@@ -61,9 +61,3 @@ costs-next {cs} {row} {c} {births} {bytes} {count} {x} {y} {on} s o e l p a q b 
   few = omega (arith, s.few);
   short = omega (arith, s.short);
 }
-
-pub costs-over : {cs : List ℕ} {row : List ℤ} {c births bytes commands : ℕ} → Costs cs row c births bytes → c ≤ commands → commands ≤ c → commands ≤ most_commands
-    → (births ≡ children_in cs row commands) × (bytes ≡ edges_in cs row commands) × (births ≤ field_limit * most_commands) × (bytes ≤ 4 * field_limit * most_commands)
-costs-over {cs} {row} {c} {commands = commands} s p q m =
-    let e : c ≡ commands = omega arith in
-    (s.born ∙ ap (children_in cs row) e, s.long ∙ ap (edges_in cs row) e, omega (arith, s.few), omega (arith, s.short))

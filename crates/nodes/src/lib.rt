@@ -21,7 +21,6 @@ pub enum Move {
     Cover(usize, usize),
     Reach(usize),
     Expand(usize),
-    Nothing,
 }
 
 // Fields of a node record while it is built.
@@ -49,19 +48,6 @@ pub fn put_field(vars: usize, nb: &mut [u8], n: usize, f: usize, u: usize)
     put::put_short(nb, size * n + 2 * f, u);
 }
 
-fn union_of(a: usize, b: usize) -> usize
-    ensures { result ≡ union a b }
-{
-    a | b
-}
-
-fn bit_of(v: usize) -> usize
-    requires { v < most_variables }
-    ensures { (result ≡ 2 ^ v) × (result < field_limit) }
-{
-    1 << v
-}
-
 // Node n tracks the variables of the set t too.
 fn track_all(vars: usize, nb: &mut [u8], n: usize, t: usize)
     requires vars_le_most_variables { (vars ≤ most_variables) × (n ≤ field_limit) × (t < field_limit) }
@@ -70,7 +56,7 @@ fn track_all(vars: usize, nb: &mut [u8], n: usize, t: usize)
 {
     let size = graph::node_size(vars);
     let s = folder::field(size, nb, n, SET);
-    put_field(vars, nb, n, SET, union_of(s, t));
+    put_field(vars, nb, n, SET, s | t);
 }
 
 // Node n tracks variable v too.
@@ -79,7 +65,7 @@ pub fn track(vars: usize, nb: &mut [u8], n: usize, v: usize)
     requires whole { Whole vars nb.old n }
     ensures { nb.new ≡ put_in vars nb.old n tracked_field (union (field (node_size vars) nb.old n tracked_field) (2 ^ v)) }
 {
-    track_all(vars, nb, n, bit_of(v));
+    track_all(vars, nb, n, 1 << v);
 }
 
 // Node n tracks what its cover tracks too.
@@ -122,6 +108,7 @@ pub fn is_on(cs: &[u8], row: &[i64], c: usize) -> bool
     whole::equal(evaluate::value_at(row, folder::field(4, cs, c, 0)), 1)
 }
 
+// A function, since an `if` in a loop that changes a row would leave a joined state.
 pub fn if_on(on: bool, n: usize) -> usize
     ensures { (result ≡ pick on n 0) × (result ≤ n) }
 {
@@ -141,13 +128,11 @@ pub fn cost_of(cs: &[u8], row: &[i64], commands: usize) -> Cost
 {
     let mut births = 0;
     let mut bytes = 0;
-    let mut c = 0;
-    while c < commands {
+    for c in 0..commands {
         let on = is_on(cs, row, c);
         let count = folder::field(4, cs, c, 1);
         births += if_on(on, count);
         bytes += if_on(on, 2 + 2 * count);
-        c += 1;
     }
     Cost { births, bytes }
 }
@@ -184,11 +169,8 @@ fn put_node(vars: usize, bs: &[u8], row: &[i64], r: usize, parent: usize, k: usi
     requires results_fit { ResultsFit vars bs.now row.now r }
     ensures { Node vars bs.now row.now r parent k (new_fields vars bs.now row.now) nb.old nb.new }
 {
-    let last = STATE + vars + 1;
-    let mut f = 0;
-    while f < last {
+    for f in 0..STATE + vars + 1 {
         put_field(vars, nb, k, f, new_field(vars, bs, row, r, parent, f));
-        f += 1;
     }
 }
 
@@ -199,14 +181,16 @@ fn put_family(vars: usize, bs: &[u8], row: &[i64], births: Births, nb: &mut [u8]
     requires all_fit { AllFit vars bs.now row.now births.record births.count }
     ensures { Family vars bs.now row.now births.record births.parent births.node births.count nb.old nb.new }
 {
-    let r = births.record;
-    let k = births.node;
-    let count = births.count;
-    let parent = births.parent;
-    let mut b = 0;
-    while b < count {
-        put_node(vars, bs, row, r + b, parent, k + b, nb);
-        b += 1;
+    for b in 0..births.count {
+        put_node(
+            vars,
+            bs,
+            row,
+            births.record + b,
+            births.parent,
+            births.node + b,
+            nb,
+        );
     }
 }
 
@@ -229,8 +213,7 @@ pub fn put_children(
 {
     let mut record = 0;
     let mut node = k;
-    let mut c = 0;
-    while c < commands {
+    for c in 0..commands {
         let branches = folder::field(4, cs, c, 1);
         let count = if_on(is_on(cs, row, c), branches);
         let births = Births {
@@ -242,6 +225,5 @@ pub fn put_children(
         put_family(vars, bs, row, births, nb);
         record += branches;
         node += count;
-        c += 1;
     }
 }

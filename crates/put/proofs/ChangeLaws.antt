@@ -1,12 +1,16 @@
 -- A loop that changes a row from `from` on, element by element: it starts, goes on, and is over.
 -- Assumes nothing.
-use Prim.Native.Nat.{ℕ, ◌+◌, ◌<◌, ◌≤◌}
+use Prim.Native.Nat.{ℕ, ◌+◌, ◌-◌, ◌<◌, ◌≤◌}
 use mathlib.Core.Path.{◌≡◌, ap, ◌∙◌}
 use mathlib.Core.List.{List}
 use native.Mathlib.Decide.{ℕ_discrete}
 use native.Mathlib.Omega.{arith}
 use lib.ListN.{length, get_or, set, length-set}
 use lib.Seq.{get_or-set_same, get_or-set_other}
+use borrow.Rule.Slice.PartMut.{put_mid}
+use Rattle.std.proofs.Common.{rules}
+use Rattle.std.proofs.lemmas.Slice.{overwrites}
+use Rattle.std.proofs.lemmas.List.{places}
 use Rattle.put.specs.Put.{Changed}
 use Rattle.put.proofs.PutLaws.{stays-none}
 
@@ -30,3 +34,17 @@ module _ {from : ℕ} {f : ℕ → ℕ → ℕ} where
 
   pub change-over : {i to : ℕ} {old new : List ℕ} → Changed from i f old new → i ≤ to → to ≤ i → Changed from to f old new
   change-over {i} {to} c p q = let e : i ≡ to = omega arith in rw (← e) c
+
+-- The same of a part that is lent: what it holds then goes back into the row.
+pub changed-part : {f : ℕ → ℕ → ℕ} (a b : ℕ) (xs ys : List ℕ) → a ≤ b → b ≤ length xs → length ys ≡ b - a
+    → ((i : ℕ) → i < b - a → get_or ys i 0 ≡ f (a + i) (get_or xs (a + i) 0)) → Changed a b f xs (put_mid a (b - a) xs ys)
+changed-part {f} a b xs ys p q l h = record {
+  stays = record {
+    long = search (rules, overwrites);
+    below = λ k m. search (rules, places);
+    past = λ k m. search (rules, places);
+  };
+  is = λ k m n. let e : get_or (put_mid a (b - a) xs ys) k 0 ≡ get_or ys (k - a) 0 = search (rules, places) in
+      let z : a + (k - a) ≡ k = omega arith in
+      e ∙ rw z at (h (k - a) (omega arith));
+}

@@ -6,26 +6,14 @@ ghost use Rattle.std.specs.Prelude.{◌≡◌, ◌+◌, ◌<◌, ◌%◌, ◌/�
 ghost use Rattle.folder.specs.Fields.{field_limit, field4_limit};
 ghost use Rattle.put.specs.Put.{put2, put4, unsigned, FitsField};
 
-fn low_byte(u: usize) -> u8
-    ensures { result ≡ u % 256 }
-{
-    (u % 256) as u8
-}
-
-fn high_byte(u: usize) -> u8
-    requires { u < field_limit }
-    ensures { result ≡ u / 256 }
-{
-    (u / 256) as u8
-}
-
 // The 2-byte field at k.
 pub fn put_short(b: &mut [u8], k: usize, u: usize)
     requires { (k + 1 < length b.old) × (u < field_limit) }
     ensures { b.new ≡ put2 b.old k u }
 {
-    b[k] = low_byte(u);
-    b[k + 1] = high_byte(u);
+    let [low, high] = (u as u16).to_le_bytes();
+    b[k] = low;
+    b[k + 1] = high;
 }
 
 // The 4-byte field at k.
@@ -42,9 +30,5 @@ pub fn unsigned_of(z: i64) -> usize
     requires { FitsField z }
     ensures { (result ≡ unsigned z) × (result < field_limit) }
 {
-    if whole::less(z, 0) {
-        whole::add(z, folder::SIGNED_SPAN) as usize
-    } else {
-        z as usize
-    }
+    usize::from((z as i16).cast_unsigned())
 }

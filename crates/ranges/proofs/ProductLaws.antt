@@ -3,15 +3,23 @@
 -- Assumes nothing.
 use Prim.Native.Nat.{ℕ, zero, suc, ◌+◌, ◌<◌, ◌≤◌}
 use mathlib.Core.Path.{◌≡◌, refl, ap, ap₂, ◌∙◌}
+use mathlib.Core.List.{List, [], ◌∷◌}
 use native.Mathlib.Omega.{arith}
-use lib.IntN.{ℤ, ◌*ℤ◌}
+use lib.ListN.{length, get_or, take, drop}
+use lib.IntN.{ℤ, pos, ◌*ℤ◌}
+use mir.Syntax.{w64}
+use mir.Val.{SFits, to_z, of_z}
 use lib.Signed.{le_z}
 use Rattle.folder.proofs.Decides.{both-and}
 use Rattle.folder.proofs.PickLaws.{pick_all}
+use Rattle.folder.specs.Tab.{tab}
 use Rattle.whole.specs.Order.{min_z, max_z, eq_z}
+use Rattle.folder.proofs.Signed.{back, back_fits}
+use Rattle.whole.proofs.Fits.{mul-near}
 use Rattle.whole.proofs.Order.{◌⊑◌, more-le, ⊑_trans, min-le-l, min-le-r, le-max-l, le-max-r, eq_z-is}
 use Rattle.expressions.specs.Ranges.{span, product, hull}
 use Rattle.expressions.specs.declared.Range.{Range}
+use Rattle.ranges.specs.Settled.{Near}
 use Rattle.ranges.specs.Products.{end_products, end_product, reach}
 
 -- ---- grouping
@@ -43,12 +51,40 @@ max_assoc a b c =
 
 -- ---- the pass
 
-pub last-product : (a b : Range) (i : ℕ) → (i ≡ 0 → ⊥) → (i ≡ 1 → ⊥) → (i ≡ 2 → ⊥) → a.high *ℤ b.high ≡ end_product a b i
-unfolding end_product
-last-product a b zero f g h = absurd (f refl)
-last-product a b (suc zero) f g h = absurd (g refl)
-last-product a b (suc (suc zero)) f g h = absurd (h refl)
-last-product a b (suc (suc (suc i))) f g h = refl
+-- Products of small ends fit 64 bits.
+module _ (a b : Range) (near : Near a × Near b) where
+  product-fits : (i : ℕ) → SFits w64 (end_product a b i)
+  unfolding end_product
+  product-fits zero = rw (back {z = a.low} (omega (arith, near.0.low)), back {z = b.low} (omega (arith, near.1.low))) at (mul-near a.low b.low near.0.low near.1.low)
+  product-fits (suc zero) = rw (back {z = a.low} (omega (arith, near.0.low)), back {z = b.high} (omega (arith, near.1.high))) at (mul-near a.low b.high near.0.low near.1.high)
+  product-fits (suc (suc zero)) = rw (back {z = a.high} (omega (arith, near.0.high)), back {z = b.low} (omega (arith, near.1.low))) at (mul-near a.high b.low near.0.high near.1.low)
+  product-fits (suc (suc (suc i))) = rw (back {z = a.high} (omega (arith, near.0.high)), back {z = b.high} (omega (arith, near.1.high))) at (mul-near a.high b.high near.0.high near.1.high)
+
+  pub product-back : (i : ℕ) {z : ℤ} → z ≡ end_product a b i → to_z w64 (of_z w64 z) ≡ end_product a b i
+  product-back i e = ap (λ (z : ℤ). to_z w64 (of_z w64 z)) e ∙ back_fits (product-fits i)
+
+-- The four, as a row: the first, and those after it.
+module _ (a b : Range) where
+  pub four : {p q r s : ℤ} → p ≡ a.low *ℤ b.low → q ≡ a.low *ℤ b.high → r ≡ a.high *ℤ b.low → s ≡ a.high *ℤ b.high
+      → p ∷ q ∷ r ∷ s ∷ [] ≡ tab end_products (end_product a b)
+  unfolding tab end_product
+  four h k l m = rw (h, k, l, m) refl
+
+  module _ {row : List ℤ} (e : row ≡ tab end_products (end_product a b)) where
+    pub first-product : get_or row 0 (pos 0) ≡ end_product a b 0
+    unfolding tab
+    first-product = ap (λ (r : List ℤ). get_or r 0 (pos 0)) e
+
+    pub three-more : length (take 3 (drop 1 row)) ≡ 3
+    unfolding tab
+    three-more = ap (λ (r : List ℤ). length (take 3 (drop 1 r))) e
+
+    pub next-product : (k : ℕ) → k < 3 → get_or (take 3 (drop 1 row)) k (pos 0) ≡ end_product a b (k + 1)
+    unfolding tab
+    next-product zero l = ap (λ (r : List ℤ). get_or (take 3 (drop 1 r)) 0 (pos 0)) e
+    next-product (suc zero) l = ap (λ (r : List ℤ). get_or (take 3 (drop 1 r)) 1 (pos 0)) e
+    next-product (suc (suc zero)) l = ap (λ (r : List ℤ). get_or (take 3 (drop 1 r)) 2 (pos 0)) e
+    next-product (suc (suc (suc k))) l = absurd (omega arith)
 
 -- Both ends of the pass are document 01's.
 pub reach-product : (a b : Range) → reach a b 3 ≡ product a b

@@ -6,11 +6,12 @@ ghost use Rattle.std.specs.Prelude.{◌≡◌, ◌<◌, ◌≤◌, length, get_o
 ghost use Rattle.folder.specs.Fields.{field_limit};
 ghost use Rattle.folder.specs.Contents.{count_of};
 ghost use Rattle.folder.specs.Scan.{first_bad};
+ghost use Rattle.folder.specs.Tab.{tab};
 ghost use Rattle.expressions.specs.Limits.{most_expressions};
 ghost use Rattle.expressions.specs.Entries.{entries_of};
 ghost use Rattle.expressions.specs.Ranges.{span, product, arith_r, hull, bound_in, range_of, inside, limits};
 ghost use Rattle.expressions.specs.Rules.{range_fits};
-ghost use Rattle.ranges.specs.Products.{end_product};
+ghost use Rattle.ranges.specs.Products.{end_products, end_product};
 ghost use Rattle.ranges.specs.Settled.{Near, Based, Ranged, low_ends, high_ends};
 
 use expressions::{Arith, HIGHEST, LOWEST, NumberForm, Range};
@@ -49,17 +50,17 @@ fn hull_of(a: Range, b: Range) -> Range
     }
 }
 
-// End product i of two ranges, in the order of `product`.
-fn end_product(a: Range, b: Range, i: usize) -> i64
+// The end products of two ranges, in the order of `product`.
+fn end_products(a: Range, b: Range) -> [i64; END_PRODUCTS]
     requires { Near a × Near b }
-    ensures { result ≡ end_product a b i }
+    ensures { result ≡ tab end_products (end_product a b) }
 {
-    match i {
-        0 => whole::mul(a.low, b.low),
-        1 => whole::mul(a.low, b.high),
-        2 => whole::mul(a.high, b.low),
-        _ => whole::mul(a.high, b.high),
-    }
+    [
+        whole::mul(a.low, b.low),
+        whole::mul(a.low, b.high),
+        whole::mul(a.high, b.low),
+        whole::mul(a.high, b.high),
+    ]
 }
 
 // The least and the greatest of the four end products, in one pass: each widens the range of those before it.
@@ -67,16 +68,13 @@ fn product_range(a: Range, b: Range) -> Range
     requires { Near a × Near b }
     ensures { result ≡ product a b }
 {
-    let first = end_product(a, b, 0);
+    let products = end_products(a, b);
     let mut r = Range {
-        low: first,
-        high: first,
+        low: products[0],
+        high: products[0],
     };
-    let mut i = 1;
-    while i < END_PRODUCTS {
-        let p = end_product(a, b, i);
-        r = hull_of(r, Range { low: p, high: p });
-        i += 1;
+    for p in &products[1..] {
+        r = hull_of(r, Range { low: *p, high: *p });
     }
     r
 }
@@ -164,18 +162,13 @@ pub fn fill_ranges(x: &[u8], y: &[u8], lows: &mut [i64], highs: &mut [i64]) -> u
     ensures highs_after { highs.new ≡ high_ends x.now y.now result highs.old }
 {
     let n = folder::count_of(8, x);
-    let mut e = 0;
-    while e < n {
+    for e in 0..n {
         let r = range_of(x, y, lows, highs, e, e);
-        if in_limits(r) {
-            let low = r.low;
-            let high = r.high;
-            lows[e] = low;
-            highs[e] = high;
-            e += 1;
-        } else {
+        if !in_limits(r) {
             return e;
         }
+        lows[e] = r.low;
+        highs[e] = r.high;
     }
-    e
+    n
 }

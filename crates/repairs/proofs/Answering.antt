@@ -1,100 +1,89 @@
 -- The repairs, as the code answers them.
 -- Assumes nothing.
+use Rattle.std.specs.Prelude.{Option, None, Some}
 use Prim.Native.Nat.{ℕ, ◌<◌}
 use mathlib.Core.Path.{◌≡◌, refl, sym, ap, ◌∙◌}
-use mathlib.Core.Bool.{Bool, true, false, false≢true}
-use mathlib.Core.Option.{Option, none, some}
+use mathlib.Core.Bool.{Bool, true, false}
 use mathlib.Core.List.{List}
-use native.Mathlib.Omega.{arith}
 use borrow.Author.Tests.{ne_eqb}
 use Rattle.mdp.specs.Kinds.{Kind}
 use Rattle.folder.specs.Pick.{pick}
-use Rattle.expressions.specs.Limits.{no_variable}
 use Rattle.model.specs.Layout.{variable_count}
 use Rattle.model.specs.Model.{Model, model_of}
 use Rattle.graph.specs.Simulation.{kind_of}
-use Rattle.building.specs.First.{◌orelse◌, there, onward}
+use Rattle.building.specs.First.{◌orelse◌, onward}
 use Rattle.building.specs.Building.{Building}
 use Rattle.building.specs.Moves.{Move, track, adopt, drop, truth_wants, guards_want, results_want, expanded_wants, covered, adopted, repair_as, repair}
 use Rattle.building.proofs.FirstLaws.{nothing, orelse-none, onward-some}
 use Rattle.held.specs.Held.{kind_field, cover_field, node_in, held_in}
-use Rattle.wants.specs.Wants.{found, truth_wants_in, own_in, results_in}
+use Rattle.wants.specs.Wants.{truth_wants_in, own_in, results_in}
 use Rattle.wants.specs.Standing.{Held, node_of}
-use Rattle.wants.proofs.Answers.{found_none, found_some}
+use Rattle.covers.specs.declared.Fault.{Fault}
+use Rattle.covers.specs.declared.Fault.TheVariants.{Apart, Untracked}
 use Rattle.covers.specs.Covers.{agrees_in, adopted_in, fault_in}
 use Rattle.repairs.proofs.Linked.{kind-here, truth-here, covered-here, adopted-here, expanded-here, own-none}
 
 -- ---- a variable that is wanted, or none
-pub tracks-none : (n v : ℕ) → v ≡ no_variable → none ≡ onward (found v) (λ w. some (track n w))
+pub tracks-none : (n : ℕ) → None ≡ onward None (λ (w : ℕ). Some (track n w))
 unfolding onward
-tracks-none n v e = rw (found_none e) refl
+tracks-none n = refl
 
-pub tracks-some : (n v : ℕ) → (v ≡ no_variable → ⊥) → some (track n v) ≡ onward (found v) (λ w. some (track n w))
+pub tracks-some : (n v : ℕ) → Some (track n v) ≡ onward (Some v) (λ (w : ℕ). Some (track n w))
 unfolding onward
-tracks-some n v d = rw (found_some d) refl
+tracks-some n v = refl
 
 -- ---- an expanded node
 module _ {m : List ℕ} {nodes : ℕ} {nb : List ℕ} (H : Held m nodes nb) {n : ℕ} (l : n < nodes) (k : (held_in m nodes nb).kind n ≡ Kind.expanded) {o : Option ℕ} (e : o ≡ (own_in m nb n orelse results_in m nb n)) where
   wants-are : o ≡ expanded_wants (model_of m) (held_in m nodes nb) n
   wants-are = e ∙ sym (expanded-here H l k)
 
-  pub expanded-repair : {r : Option Move} → r ≡ onward o (λ w. some (track n w)) → r ≡ repair_as (model_of m) (held_in m nodes nb) n Kind.expanded
-  expanded-repair q = q ∙ ap (λ (p : Option ℕ). onward p (λ w. some (track n w))) wants-are
+  pub expanded-repair : {r : Option Move} → r ≡ onward o (λ w. Some (track n w)) → r ≡ repair_as (model_of m) (held_in m nodes nb) n Kind.expanded
+  expanded-repair q = q ∙ ap (λ (p : Option ℕ). onward p (λ w. Some (track n w))) wants-are
 
   -- Its children want nothing.
-  pub results-none : o ≡ none → results_want (model_of m) (held_in m nodes nb) n ≡ none
+  pub results-none : o ≡ None → results_want (model_of m) (held_in m nodes nb) n ≡ None
   results-none q =
       (orelse-none (truth_wants (model_of m) (held_in m nodes nb) n (model_of m).target) (results_want (model_of m) (held_in m nodes nb) n)
       (orelse-none (guards_want (model_of m) (held_in m nodes nb) n) _ (sym wants-are ∙ q)).1).1
 
 -- Guards and target are not asked for where they want nothing.
 pub unasked : (m : List ℕ) (nodes : ℕ) (nb : List ℕ) (n : ℕ) → n < nodes → {asked : Bool}
-    → (asked ≡ false → (guards_want (model_of m) (held_in m nodes nb) n ≡ none) × (truth_wants (model_of m) (held_in m nodes nb) n (model_of m).target ≡ none)) → asked ≡ false → own_in m nb n ≡ none
+    → (asked ≡ false → (guards_want (model_of m) (held_in m nodes nb) n ≡ None) × (truth_wants (model_of m) (held_in m nodes nb) n (model_of m).target ≡ None)) → asked ≡ false → own_in m nb n ≡ None
 unasked m nodes nb n l h e = own-none m nodes nb l (h e).0 (h e).1
 
 -- ---- a target
-pub target-repair : (m : List ℕ) (nodes : ℕ) (nb : List ℕ) (n : ℕ) → n < nodes → {o : Option ℕ} {r : Option Move} → o ≡ truth_wants_in m nb n (model_of m).target → r ≡ onward o (λ w. some (track n w))
+pub target-repair : (m : List ℕ) (nodes : ℕ) (nb : List ℕ) (n : ℕ) → n < nodes → {o : Option ℕ} {r : Option Move} → o ≡ truth_wants_in m nb n (model_of m).target → r ≡ onward o (λ w. Some (track n w))
     → r ≡ repair_as (model_of m) (held_in m nodes nb) n Kind.target
-target-repair m nodes nb n l e p = p ∙ ap (λ (q : Option ℕ). onward q (λ w. some (track n w))) (e ∙ sym (truth-here m nodes nb n l (model_of m).target))
+target-repair m nodes nb n l e p = p ∙ ap (λ (q : Option ℕ). onward q (λ w. Some (track n w))) (e ∙ sym (truth-here m nodes nb n l (model_of m).target))
 
 -- ---- a covered node
-fault-drop : (n : ℕ) (a b : Bool) → ◌≡◌ {A = ℕ} (pick a (pick b 0 24) 23) 23 → some (drop n) ≡ pick a (pick b none (some (adopt n))) (some (drop n))
-fault-drop n true true e = absurd (omega arith)
-fault-drop n true false e = absurd (omega arith)
-fault-drop n false b e = refl
+-- What is made of it.
+abbrev pub by_fault : ℕ → Option Fault → Option Move
+by_fault n None = None
+by_fault n (Some Apart) = Some (drop n)
+by_fault n (Some Untracked) = Some (adopt n)
 
-fault-adopt : (n : ℕ) (a b : Bool) → ◌≡◌ {A = ℕ} (pick a (pick b 0 24) 23) 24 → some (adopt n) ≡ pick a (pick b none (some (adopt n))) (some (drop n))
-fault-adopt n true true e = absurd (omega arith)
-fault-adopt n true false e = refl
-fault-adopt n false b e = absurd (omega arith)
+fault-repair : (n : ℕ) (a b : Bool) → by_fault n (pick a (pick b None (Some Untracked)) (Some Apart)) ≡ pick a (pick b None (Some (adopt n))) (Some (drop n))
+fault-repair n true true = refl
+fault-repair n true false = refl
+fault-repair n false b = refl
 
-fault-nothing : (n : ℕ) (a b : Bool) → (◌≡◌ {A = ℕ} (pick a (pick b 0 24) 23) 23 → ⊥) → (◌≡◌ {A = ℕ} (pick a (pick b 0 24) 23) 24 → ⊥) → none ≡ pick a (pick b none (some (adopt n))) (some (drop n))
-fault-nothing n true true p q = refl
-fault-nothing n true false p q = absurd (q refl)
-fault-nothing n false b p q = absurd (p refl)
-
-module _ {m : List ℕ} {nodes : ℕ} {nb : List ℕ} (H : Held m nodes nb) {n : ℕ} (l : n < nodes) (k : (held_in m nodes nb).kind n ≡ Kind.covered) {vars r : ℕ} (p : vars ≡ variable_count m) (e : r ≡ fault_in vars nb n) where
+module _ {m : List ℕ} {nodes : ℕ} {nb : List ℕ} (H : Held m nodes nb) {n : ℕ} (l : n < nodes) (k : (held_in m nodes nb).kind n ≡ Kind.covered) {vars : ℕ} {r : Option Fault} (p : vars ≡ variable_count m) (e : r ≡ fault_in vars nb n) where
   abbrev a : Bool
   a = agrees_in (variable_count m) nb (node_in m nb n cover_field) n
 
   abbrev b : Bool
   b = adopted_in (variable_count m) nb n
 
-  as-records : repair_as (model_of m) (held_in m nodes nb) n Kind.covered ≡ pick a (pick b none (some (adopt n))) (some (drop n))
-  as-records = λ i. pick (covered-here H l k i) (pick (adopted-here H l k i) none (some (adopt n))) (some (drop n))
+  as-records : repair_as (model_of m) (held_in m nodes nb) n Kind.covered ≡ pick a (pick b None (Some (adopt n))) (Some (drop n))
+  as-records = λ i. pick (covered-here H l k i) (pick (adopted-here H l k i) None (Some (adopt n))) (Some (drop n))
 
-  fault-is : r ≡ pick a (pick b 0 24) 23
+  fault-is : r ≡ pick a (pick b None (Some Untracked)) (Some Apart)
   unfolding fault_in
   fault-is = e ∙ ap (λ (x : ℕ). fault_in x nb n) p
 
-  pub covered-drop : r ≡ 23 → some (drop n) ≡ repair_as (model_of m) (held_in m nodes nb) n Kind.covered
-  covered-drop q = fault-drop n a b (sym fault-is ∙ q) ∙ sym as-records
-
-  pub covered-adopt : r ≡ 24 → some (adopt n) ≡ repair_as (model_of m) (held_in m nodes nb) n Kind.covered
-  covered-adopt q = fault-adopt n a b (sym fault-is ∙ q) ∙ sym as-records
-
-  pub covered_none : (r ≡ 23 → ⊥) → (r ≡ 24 → ⊥) → none ≡ repair_as (model_of m) (held_in m nodes nb) n Kind.covered
-  covered_none x y = fault-nothing n a b (λ q. x (fault-is ∙ q)) (λ q. y (fault-is ∙ q)) ∙ sym as-records
+  pub covered-repair : {f : Option Fault} → r ≡ f → by_fault n f ≡ repair_as (model_of m) (held_in m nodes nb) n Kind.covered
+  covered-repair q = ap (by_fault n) (sym q ∙ fault-is) ∙ fault-repair n a b ∙ sym as-records
 
 -- ---- a node, by the kind that its record has
 module _ (m : List ℕ) (nodes : ℕ) (nb : List ℕ) (n : ℕ) (l : n < nodes) {kind : ℕ} (e : kind ≡ node_in m nb n kind_field) where
@@ -122,29 +111,17 @@ pub repair-by : {m : List ℕ} {nodes : ℕ} {nb : List ℕ} → Held m nodes nb
 repair-by {m} {nodes} {nb} H {n} l k e = e ∙ ap (repair_as (model_of m) (held_in m nodes nb) n) (sym k)
 
 -- ---- one visit
-pub none-there : {A : Type 0} {o : Option A} → there o ≡ false → o ≡ none
-none-there {o = none} e = refl
-none-there {o = some a} e = absurd (false≢true (sym e))
-
-pub found-move : {A : Type 0} {o : Option A} → there o ≡ true → (a : A) × (o ≡ some a)
-found-move {o = none} e = absurd (false≢true e)
-found-move {o = some a} e = (a, refl)
-
--- Marks stay where there is a move.
-pub marks_stay : {t b : Bool} (marks other : List ℕ) → t ≡ b → t ≡ true → marks ≡ pick b marks other
-marks_stay marks other e h = rw (sym e ∙ h) refl
-
 -- A repair concerns the node that it is for.
-repair-node : (M : Model) (B : Building) (n h : ℕ) (κ : Kind) (a : Move) → repair_as M B n κ ≡ some a → node_of h (some a) ≡ n
+repair-node : (M : Model) (B : Building) (n h : ℕ) (κ : Kind) (a : Move) → repair_as M B n κ ≡ Some a → node_of h (Some a) ≡ n
 repair-node M B n h Kind.waiting a e = nothing e
-repair-node M B n h Kind.expanded a e = let w = onward-some (expanded_wants M B n) (λ v. some (track n v)) a e in ap (node_of h) (sym w.2)
+repair-node M B n h Kind.expanded a e = let w = onward-some (expanded_wants M B n) (λ v. Some (track n v)) a e in ap (node_of h) (sym w.2)
 repair-node M B n h Kind.covered a e = go (covered M B n) (adopted M B n) e
   where
-    go : (x y : Bool) → pick x (pick y none (some (adopt n))) (some (drop n)) ≡ some a → node_of h (some a) ≡ n
+    go : (x y : Bool) → pick x (pick y None (Some (adopt n))) (Some (drop n)) ≡ Some a → node_of h (Some a) ≡ n
     go true true q = nothing q
     go true false q = ap (node_of h) (sym q)
     go false y q = ap (node_of h) (sym q)
-repair-node M B n h Kind.target a e = let w = onward-some (truth_wants M B n M.target) (λ v. some (track n v)) a e in ap (node_of h) (sym w.2)
+repair-node M B n h Kind.target a e = let w = onward-some (truth_wants M B n M.target) (λ v. Some (track n v)) a e in ap (node_of h) (sym w.2)
 
-pub repair-at : (M : Model) (B : Building) (n h : ℕ) (a : Move) → repair M B n ≡ some a → node_of h (some a) ≡ n
+pub repair-at : (M : Model) (B : Building) (n h : ℕ) (a : Move) → repair M B n ≡ Some a → node_of h (Some a) ≡ n
 repair-at M B n h a e = repair-node M B n h (B.kind n) a e

@@ -1,9 +1,9 @@
 -- What the records say of a node is what the building that they hold says: its label, what it wants, whether its cover is right.
 -- Assumes nothing.
+use Rattle.std.specs.Prelude.{Option, None, Some}
 use Prim.Native.Nat.{ℕ, zero, suc, ◌+◌, ◌^◌, ◌<◌, ◌≤◌}
 use mathlib.Core.Path.{◌≡◌, refl, sym, ap, ◌∙◌, subst}
 use mathlib.Core.Bool.{Bool, true, false}
-use mathlib.Core.Option.{Option, none, some}
 use mathlib.Core.List.{List, []}
 use native.Mathlib.Nat.{le_step, le_refl}
 use native.Mathlib.Omega.{arith}
@@ -48,8 +48,8 @@ module _ {A : Type 0} where
 
   pub orelse-assoc : (o p q : Option A) → (o orelse (p orelse q)) ≡ ((o orelse p) orelse q)
   unfolding ◌orelse◌
-  orelse-assoc none p q = refl
-  orelse-assoc (some a) p q = refl
+  orelse-assoc None p q = refl
+  orelse-assoc (Some a) p q = refl
 
 -- ---- a node that is counted
 module _ (m : List ℕ) (nodes : ℕ) (nb : List ℕ) where
@@ -148,7 +148,7 @@ module _ {m : List ℕ} {nodes : ℕ} {nb : List ℕ} (H : Held m nodes nb) {n :
     }
 
 -- 19 of an expanded node wants nothing, where guards and target want nothing.
-pub own-none : (m : List ℕ) (nodes : ℕ) (nb : List ℕ) {n : ℕ} → n < nodes → guards_want (model_of m) (held_in m nodes nb) n ≡ none → truth_wants (model_of m) (held_in m nodes nb) n (model_of m).target ≡ none → own_in m nb n ≡ none
+pub own-none : (m : List ℕ) (nodes : ℕ) (nb : List ℕ) {n : ℕ} → n < nodes → guards_want (model_of m) (held_in m nodes nb) n ≡ None → truth_wants (model_of m) (held_in m nodes nb) n (model_of m).target ≡ None → own_in m nb n ≡ None
 unfolding ◌orelse◌
 own-none m nodes nb {n} l g t = rw (sym (guards-here m nodes nb n l) ∙ g) (sym (truth-here m nodes nb n l (model_of m).target) ∙ t)
 

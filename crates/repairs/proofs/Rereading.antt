@@ -1,9 +1,9 @@
 -- What is marked as read changes, and nothing else: what stands then.
 -- Assumes nothing.
+use Rattle.std.specs.Prelude.{None}
 use Prim.Native.Nat.{ℕ, ◌+◌, ◌-◌, ◌*◌, ◌<◌, ◌≤◌}
 use mathlib.Core.Path.{◌≡◌, refl, sym, ap, ◌∙◌, subst}
 use mathlib.Core.Bool.{true}
-use mathlib.Core.Option.{none}
 use mathlib.Core.List.{List}
 use native.Mathlib.Nat.{mul-le-mul_left}
 use native.Mathlib.Decide.{dec_lt, ℕ_discrete}
@@ -69,9 +69,9 @@ module _ {m : List ℕ} {nodes : ℕ} {old new : List ℕ} (r : Reread m nodes o
   settled-again {fresh} S = subst (λ (C : Building). Settled (model_of m) C fresh) (sym r.held) S
 
 -- ---- an expanded node that wants nothing reads what its children track
-module _ (M : Model) (B : Building) (n : ℕ) (w : results_want M B n ≡ none) where
+module _ (M : Model) (B : Building) (n : ℕ) (w : results_want M B n ≡ None) where
   pub tracked-read : (c : ℕ) → c < M.commands → enabled M (B.state n) c ≡ true → (b : ℕ) → b < M.branches c
-      → (v : ℕ) → v < M.variables → has_bit (B.tracked (child_by M B n c b)) v ≡ true → number_wants M B n (M.assigned (first_record M c + b) v) ≡ none
+      → (v : ℕ) → v < M.variables → has_bit (B.tracked (child_by M B n c b)) v ≡ true → number_wants M B n (M.assigned (first_record M c + b) v) ≡ None
   unfolding results_want result_wants
   tracked-read c h e b q v z t =
       given-none (has_bit (B.tracked (child_by M B n c b)) v) _
@@ -79,7 +79,7 @@ module _ (M : Model) (B : Building) (n : ℕ) (w : results_want M B n ≡ none) 
       (first-none (M.branches c) (result_wants M B n c) (given-none (enabled M (B.state n) c) _ (first-none M.commands (λ d. given (enabled M (B.state n) d) (first (M.branches d) (result_wants M B n d))) w c h) e) b q) v z) t
 
 module _ {m : List ℕ} {nodes : ℕ} {old new : List ℕ} (H : Held m nodes old) (R : ReadRight (model_of m) (held_in m nodes old) (read_in m old)) (P : ParentRight (model_of m) (held_in m nodes old) (parent_in m old))
-    {n : ℕ} (l : n < nodes) (k : (held_in m nodes old).kind n ≡ Kind.expanded) (w : results_want (model_of m) (held_in m nodes old) n ≡ none)
+    {n : ℕ} (l : n < nodes) (k : (held_in m nodes old).kind n ≡ Kind.expanded) (w : results_want (model_of m) (held_in m nodes old) n ≡ None)
     {start end : ℕ} (p : start ≡ node_in m old n child_field) (q : end ≡ children_end m old n) (s : AllMarked (variable_count m) start end old new) where
   abbrev M : Model
   M = model_of m
@@ -99,7 +99,7 @@ module _ {m : List ℕ} {nodes : ℕ} {old new : List ℕ} (H : Held m nodes old
 
   -- Of node n itself.
   own_read : (c : ℕ) → c < M.commands → enabled M (B.state n) c ≡ true → (b : ℕ) → b < M.branches c
-      → (v : ℕ) → has_bit (read_in m new (child_by M B n c b)) v ≡ true → number_wants M B n (M.assigned (first_record M c + b) v) ≡ none
+      → (v : ℕ) → has_bit (read_in m new (child_by M B n c b)) v ≡ true → number_wants M B n (M.assigned (first_record M c + b) v) ≡ None
   own_read c h e b g v t =
       let x : ℕ = child_by M B n c b in
       let a : start ≤ x = omega (arith, start_is) in
@@ -127,10 +127,10 @@ module _ {m : List ℕ} {nodes : ℕ} {old new : List ℕ} (H : Held m nodes old
   marked-read = record { is = λ i f j c h e b g v t. go i f j c h e b g v t (ℕ_discrete i n) }
     where
       go : (i : ℕ) → i < nodes → B.kind i ≡ Kind.expanded → (c : ℕ) → c < M.commands → enabled M (B.state i) c ≡ true → (b : ℕ) → b < M.branches c
-          → (v : ℕ) → has_bit (read_in m new (child_by M B i c b)) v ≡ true → Dec (i ≡ n) → number_wants M B i (M.assigned (first_record M c + b) v) ≡ none
+          → (v : ℕ) → has_bit (read_in m new (child_by M B i c b)) v ≡ true → Dec (i ≡ n) → number_wants M B i (M.assigned (first_record M c + b) v) ≡ None
       go i f j c h e b g v t (yes z) =
           let y = subst (λ (a : ℕ). enabled M (B.state a) c ≡ true) z e in
-          subst (λ (a : ℕ). number_wants M B a (M.assigned (first_record M c + b) v) ≡ none) (sym z) (own_read c h y b g v (subst (λ (a : ℕ). has_bit (read_in m new (child_by M B a c b)) v ≡ true) z t))
+          subst (λ (a : ℕ). number_wants M B a (M.assigned (first_record M c + b) v) ≡ None) (sym z) (own_read c h y b g v (subst (λ (a : ℕ). has_bit (read_in m new (child_by M B a c b)) v ≡ true) z t))
       go i f j c h e b g v t (no d) = R.is i f j c h e b g v (ap (λ (a : ℕ). has_bit a v) (sym (other-read i f d j c h e b g)) ∙ t)
 
   held-still : held_in m nodes new ≡ B
@@ -158,6 +158,6 @@ module _ {m : List ℕ} {nodes : ℕ} {nb : List ℕ} (H : Held m nodes nb) {n :
       let z : end ≤ nodes = omega (arith, q, end-within H l k) in
       (omega (arith, p, q), omega (arith, H.kept.few), rw v (omega (arith, mul-le-mul_left (node_size (variable_count m)) z, H.long)))
 
-  pub reread-by : ReadRight (model_of m) (held_in m nodes nb) (read_in m nb) → ParentRight (model_of m) (held_in m nodes nb) (parent_in m nb) → results_want (model_of m) (held_in m nodes nb) n ≡ none
+  pub reread-by : ReadRight (model_of m) (held_in m nodes nb) (read_in m nb) → ParentRight (model_of m) (held_in m nodes nb) (parent_in m nb) → results_want (model_of m) (held_in m nodes nb) n ≡ None
       → {new : List ℕ} → AllMarked vars start end nb new → Reread m nodes nb new
   reread-by R P w {new} s = reread-marked H R P l k w p q (subst (λ (x : ℕ). AllMarked x start end nb new) v s)

@@ -2,8 +2,7 @@
 
 #![tactic(auto)]
 
-ghost use Rattle.std.specs.Prelude.{◌≡◌, true, false, ℕ, ◌+◌, ◌*◌, ◌<◌, ◌≤◌, length, set};
-ghost use Rattle.std.proofs.Math.Option.{none, some};
+ghost use Rattle.std.specs.Prelude.{◌≡◌, false, ◌*◌, ◌<◌, ◌≤◌, length, set, None, Some, option_map};
 ghost use Rattle.mdp.specs.Kinds.{Kind};
 ghost use Rattle.folder.specs.Pick.{pick};
 ghost use Rattle.folder.specs.Fields.{field_limit};
@@ -11,18 +10,18 @@ ghost use Rattle.model.specs.Limits.{most_variables};
 ghost use Rattle.model.specs.Model.{model_of};
 ghost use Rattle.graph.specs.Simulation.{node_size};
 ghost use Rattle.graph.specs.Limits.{most_nodes};
-ghost use Rattle.building.specs.First.{there, onward, first};
-ghost use Rattle.building.specs.Moves.{track, truth_wants, guards_want, repair_as, repair};
+ghost use Rattle.building.specs.First.{there, first};
+ghost use Rattle.building.specs.Moves.{truth_wants, guards_want, repair_as, repair};
 ghost use Rattle.building.specs.Working.{ParentRight, Settled, MarkRight};
 ghost use Rattle.held.specs.Held.{held_in};
-ghost use Rattle.wants.specs.Wants.{found};
 ghost use Rattle.nodes.specs.Told.{told};
 ghost use Rattle.wants.specs.Standing.{parent_in, row_in, Standing, Reread, node_of};
 ghost use Rattle.repairs.specs.Marked.{AllMarked};
 
-use expressions::NO_VARIABLE;
+use covers::Fault;
 use graph::{COVERED, EXPANDED, TARGET};
 use nodes::{KIND, Move, READ, SET};
+use work::Work;
 
 // The nodes from `from` to below `end` are marked as read, with all that they track.
 fn mark_read(vars: usize, nb: &mut [u8], from: usize, end: usize)
@@ -31,22 +30,10 @@ fn mark_read(vars: usize, nb: &mut [u8], from: usize, end: usize)
     ensures { AllMarked vars from end nb.old nb.new }
 {
     let size = graph::node_size(vars);
-    let mut x = wants::next_unread(vars, nb, 0, from, end);
-    while x < end {
+    for x in from..end {
         let set = folder::field(size, nb, x, SET);
         nodes::put_field(vars, nb, x, READ, set);
-        x = wants::next_unread(vars, nb, 0, x + 1, end);
     }
-}
-
-// Node n is to track variable v, if there is one.
-fn tracks_found(n: usize, v: usize) -> Move
-    ensures { told result ≡ onward (found v) (λ w. some (track n w)) }
-{
-    if v == NO_VARIABLE {
-        return Move::Nothing;
-    }
-    Move::Track(n, v)
 }
 
 // 19, then 21, of the expanded node n. If nothing is wanted, all that its children track is marked as read.
@@ -57,54 +44,61 @@ fn repair_expanded(
     n: usize,
     masks: &[u16],
     asked: bool,
-) -> Move
+) -> Option<Move>
     requires standing { Standing m.now masks.now nodes nb.old }
     requires parent_right { ParentRight (model_of m.now) (held_in m.now nodes nb.old) (parent_in m.now nb.old) }
     requires n_lt_nodes { (n < nodes) × ((held_in m.now nodes nb.old).kind n ≡ Kind.expanded) }
-    requires n_value { asked ≡ false → (guards_want (model_of m.now) (held_in m.now nodes nb.old) n ≡ none) × (truth_wants (model_of m.now) (held_in m.now nodes nb.old) n (model_of m.now).target ≡ none) }
-    ensures result_value { told result ≡ repair_as (model_of m.now) (held_in m.now nodes nb.old) n Kind.expanded }
+    requires n_value { asked ≡ false → (guards_want (model_of m.now) (held_in m.now nodes nb.old) n ≡ None) × (truth_wants (model_of m.now) (held_in m.now nodes nb.old) n (model_of m.now).target ≡ None) }
+    ensures result_value { option_map told result ≡ repair_as (model_of m.now) (held_in m.now nodes nb.old) n Kind.expanded }
     ensures reread { Reread m.now nodes nb.old nb.new }
 {
-    let w = wants::expanded_wants(m, nb, n, masks, asked);
-    if w.wanted == NO_VARIABLE {
-        mark_read(graph::variable_count(m), nb, w.start, w.end);
-        return Move::Nothing;
+    match wants::expanded_wants(m, nb, n, masks, asked) {
+        Ok(children) => {
+            mark_read(graph::variable_count(m), nb, children.start, children.end);
+            None
+        }
+        Err(v) => Some(Move::Track(n, v)),
     }
-    Move::Track(n, w.wanted)
 }
 
 // 23, then 24, of the covered node n.
-fn repair_covered(m: &[u8], nb: &[u8], nodes: usize, n: usize, masks: &[u16]) -> Move
+fn repair_covered(m: &[u8], nb: &[u8], nodes: usize, n: usize, masks: &[u16]) -> Option<Move>
     requires standing { Standing m.now masks.now nodes nb.now }
     requires n_lt_nodes { (n < nodes) × ((held_in m.now nodes nb.now).kind n ≡ Kind.covered) }
-    ensures { told result ≡ repair_as (model_of m.now) (held_in m.now nodes nb.now) n Kind.covered }
+    ensures { option_map told result ≡ repair_as (model_of m.now) (held_in m.now nodes nb.now) n Kind.covered }
 {
-    let fault = covers::fault_of(graph::variable_count(m), nb, n);
-    if fault == 23 {
-        return Move::Drop(n);
+    match covers::fault_of(graph::variable_count(m), nb, n) {
+        Some(Fault::Apart) => Some(Move::Drop(n)),
+        Some(Fault::Untracked) => Some(Move::Adopt(n)),
+        None => None,
     }
-    if fault == 24 {
-        return Move::Adopt(n);
-    }
-    Move::Nothing
 }
 
 // 19 of the target node n.
-fn repair_target(m: &[u8], nb: &[u8], nodes: usize, n: usize, masks: &[u16]) -> Move
+fn repair_target(m: &[u8], nb: &[u8], nodes: usize, n: usize, masks: &[u16]) -> Option<Move>
     requires standing { Standing m.now masks.now nodes nb.now }
     requires n_lt_nodes { n < nodes }
-    ensures { told result ≡ repair_as (model_of m.now) (held_in m.now nodes nb.now) n Kind.target }
+    ensures { option_map told result ≡ repair_as (model_of m.now) (held_in m.now nodes nb.now) n Kind.target }
 {
-    tracks_found(n, wants::target_wants(m, nb, n, masks))
+    let v = wants::target_wants(m, nb, n, masks)?;
+    Some(Move::Track(n, v))
 }
 
 // The repair of node n's first broken rule, if it has one. Its guards and its target are asked for only if need be.
-fn repair_of(m: &[u8], nb: &mut [u8], nodes: usize, n: usize, masks: &[u16], asked: bool) -> Move
+// The kind is a number, since the record's layout has it so.
+fn repair_of(
+    m: &[u8],
+    nb: &mut [u8],
+    nodes: usize,
+    n: usize,
+    masks: &[u16],
+    asked: bool,
+) -> Option<Move>
     requires standing { Standing m.now masks.now nodes nb.old }
     requires parent_right { ParentRight (model_of m.now) (held_in m.now nodes nb.old) (parent_in m.now nb.old) }
     requires n_lt_nodes { n < nodes }
-    requires n_value { asked ≡ false → (held_in m.now nodes nb.old).kind n ≡ Kind.expanded → (guards_want (model_of m.now) (held_in m.now nodes nb.old) n ≡ none) × (truth_wants (model_of m.now) (held_in m.now nodes nb.old) n (model_of m.now).target ≡ none) }
-    ensures result_value { told result ≡ repair (model_of m.now) (held_in m.now nodes nb.old) n }
+    requires n_value { asked ≡ false → (held_in m.now nodes nb.old).kind n ≡ Kind.expanded → (guards_want (model_of m.now) (held_in m.now nodes nb.old) n ≡ None) × (truth_wants (model_of m.now) (held_in m.now nodes nb.old) n (model_of m.now).target ≡ None) }
+    ensures result_value { option_map told result ≡ repair (model_of m.now) (held_in m.now nodes nb.old) n }
     ensures reread { Reread m.now nodes nb.old nb.new }
 {
     let size = graph::node_size(graph::variable_count(m));
@@ -118,74 +112,58 @@ fn repair_of(m: &[u8], nb: &mut [u8], nodes: usize, n: usize, masks: &[u16], ask
     if kind == TARGET {
         return repair_target(m, nb, nodes, n, masks);
     }
-    Move::Nothing
-}
-
-pub fn is_move(mv: Move) -> bool
-    ensures { result ≡ there (told mv) }
-{
-    match mv {
-        Move::Track(_, _) => true,
-        Move::Adopt(_) => true,
-        Move::Drop(_) => true,
-        Move::Cover(_, _) => true,
-        Move::Reach(_) => true,
-        Move::Expand(_) => true,
-        Move::Nothing => false,
-    }
-}
-
-// How many nodes there are, which was opened last, and from where to where nodes may be marked.
-#[derive(Clone, Copy)]
-pub struct Marks {
-    pub nodes: usize,
-    pub fresh: usize,
-    pub low: usize,
-    pub high: usize,
+    None
 }
 
 // The repair of node n, if it is marked and has one; if it has none, it is marked no longer.
-fn visit(m: &[u8], nb: &mut [u8], masks: &[u16], marks: &mut [u8], w: Marks, n: usize) -> Move
+fn visit(
+    m: &[u8],
+    nb: &mut [u8],
+    masks: &[u16],
+    marks: &mut [u8],
+    w: Work,
+    n: usize,
+) -> Option<Move>
     requires standing { Standing m.now masks.now w.nodes nb.old }
     requires parent_right { ParentRight (model_of m.now) (held_in m.now w.nodes nb.old) (parent_in m.now nb.old) }
     requires settled { Settled (model_of m.now) (held_in m.now w.nodes nb.old) w.fresh }
     requires n_lt_nodes { (n < w.nodes) × (n < length marks.old) }
-    requires n_value { row_in marks.old n ≡ 0 → repair (model_of m.now) (held_in m.now w.nodes nb.old) n ≡ none }
-    ensures result_value { told result ≡ repair (model_of m.now) (held_in m.now w.nodes nb.old) n }
+    requires n_value { row_in marks.old n ≡ 0 → repair (model_of m.now) (held_in m.now w.nodes nb.old) n ≡ None }
+    ensures result_value { option_map told result ≡ repair (model_of m.now) (held_in m.now w.nodes nb.old) n }
     ensures reread { Reread m.now w.nodes nb.old nb.new }
-    ensures marks_after { marks.new ≡ pick (there (told result)) marks.old (set marks.old n 0) }
+    ensures marks_after { marks.new ≡ pick (there (option_map told result)) marks.old (set marks.old n 0) }
 {
     if marks[n] == 0 {
-        marks[n] = 0;
-        return Move::Nothing;
+        return None;
     }
-    let r = repair_of(m, nb, w.nodes, n, masks, n == w.fresh);
-    if is_move(r) {
-        return r;
+    if let Some(mv) = repair_of(m, nb, w.nodes, n, masks, n == w.fresh) {
+        return Some(mv);
     }
     marks[n] = 0;
-    Move::Nothing
+    None
 }
 
 // The repair of the lowest node that has a broken rule.
-pub fn first_repair(m: &[u8], nb: &mut [u8], masks: &[u16], marks: &mut [u8], w: Marks) -> Move
+pub fn first_repair(
+    m: &[u8],
+    nb: &mut [u8],
+    masks: &[u16],
+    marks: &mut [u8],
+    w: Work,
+) -> Option<Move>
     requires standing { Standing m.now masks.now w.nodes nb.old }
     requires parent_right { ParentRight (model_of m.now) (held_in m.now w.nodes nb.old) (parent_in m.now nb.old) }
     requires settled { Settled (model_of m.now) (held_in m.now w.nodes nb.old) w.fresh }
     requires mark_right { MarkRight (model_of m.now) (held_in m.now w.nodes nb.old) (row_in marks.old) w.low w.high }
     requires low_le_high { (w.low ≤ w.high) × (w.high ≤ w.nodes) × (most_nodes ≤ length marks.old) }
-    ensures result_value { told result ≡ first w.nodes (repair (model_of m.now) (held_in m.now w.nodes nb.old)) }
+    ensures result_value { option_map told result ≡ first w.nodes (repair (model_of m.now) (held_in m.now w.nodes nb.old)) }
     ensures reread { Reread m.now w.nodes nb.old nb.new }
-    ensures mark_right_2 { MarkRight (model_of m.now) (held_in m.now w.nodes nb.new) (row_in marks.new) (node_of w.high (told result)) w.high }
+    ensures mark_right_2 { MarkRight (model_of m.now) (held_in m.now w.nodes nb.new) (row_in marks.new) (node_of w.high (option_map told result)) w.high }
 {
-    let high = w.high;
-    let mut n = w.low;
-    while n < high {
-        let r = visit(m, nb, masks, marks, w, n);
-        if is_move(r) {
-            return r;
+    for n in w.low..w.high {
+        if let Some(mv) = visit(m, nb, masks, marks, w, n) {
+            return Some(mv);
         }
-        n += 1;
     }
-    Move::Nothing
+    None
 }

@@ -8,18 +8,15 @@ use borrow.Author.Tests.{eq-eqb, ne_eqb}
 use lib.ListN.{length, get_or}
 use Rattle.folder.specs.Fields.{field_limit}
 use Rattle.folder.specs.Table.{outcome}
-use Rattle.folder.specs.declared.Outcome.TheVariants.{Accepted}
 use Rattle.text.specs.Text.{written, Holds}
 use Rattle.text.proofs.TextLaws.{holds_more}
 use Rattle.model.specs.Model.{Model, model_of}
 use Rattle.graph.specs.Limits.{most_steps, most_nodes}
 use Rattle.graph.specs.Simulation.{Simulation, simulation_of}
-use Rattle.graph.specs.Table.{summary, graph_answer, graph_outcome}
+use Rattle.graph.specs.Table.{summary, graph_answer, graph_outcome, GraphAnswer}
 use Rattle.graph.specs.Figures.{figure_rows, first_of, second_of}
 use Rattle.graph.specs.Valid.{Valid}
 use Rattle.graph.specs.declared.Summary.{Summary}
-use Rattle.graph.specs.declared.GraphAnswer.{GraphAnswer}
-use Rattle.graph.specs.declared.GraphAnswer.TheVariants as Answer
 use Rattle.graph.proofs.CountLaws.{kind-few, none-of-kind}
 use Rattle.graph.proofs.Decided.{accepted-valid, figure-valid}
 use Rattle.graph.proofs.Demand.{answer-is}
@@ -27,6 +24,7 @@ use Rattle.rounds.proofs.FigureLaws.{begins}
 use Rattle.laguipy.proofs.CallLaws.{figure-goes-on}
 use Rattle.report.specs.Room.{text_room}
 use Rattle.report.specs.Report.{counts_line, root_line, figure_lines, root_figure, text_of, report_text}
+use Rattle.std.specs.Prelude.{Ok}
 
 module _ (m g : List ℕ) where
   abbrev M : Model
@@ -49,7 +47,7 @@ module _ (m g : List ℕ) where
     -- With no node waiting, rows of `most_nodes` elements take the figures, and the root's is the first element.
     module _ (z : (summary G).waiting ≡ 0) (h : ℕ) (l : h ≤ most_steps)
         (first second : List ℕ) (p : most_nodes ≤ length first) (q : most_nodes ≤ length second) where
-      figure-accepted : outcome (figure_rows G h first second) ≡ Accepted
+      figure-accepted : outcome (figure_rows G h first second) ≡ (Ok tt)
       figure-accepted =
           sym (figure-goes-on m g h first second ((accepted-valid m g).1 A))
           ∙ (figure-valid m g h first second).1 (
@@ -83,20 +81,20 @@ module _ (m g : List ℕ) where
     lines : Holds out (counts_line s ++ root_line s.root) out₂ b
     lines = holds_more h (root_line s.root) (omega (arith, w.0, w.2)) w.0 w.1
 
-    pub two-lines : (s.waiting ≡ 0 → ⊥) → Holds out (text_of (Answer.Accepted s) (root_figure m g)) out₂ b
+    pub two-lines : (s.waiting ≡ 0 → ⊥) → Holds out (text_of (Ok s) (root_figure m g)) out₂ b
     two-lines z = rw (ne_eqb s.waiting 0 z, append-nil) lines
 
     pub all_lines : {f0 f1 f2 f3 r : ℕ} {out₃ : List ℕ}
         → f0 ≡ root_figure m g 0 → f1 ≡ root_figure m g 1 → f2 ≡ root_figure m g 2 → f3 ≡ root_figure m g 3
         → (r ≡ b + length (figure_lines f0 f1 f2 f3)) × (out₃ ≡ written out₂ b (figure_lines f0 f1 f2 f3)) × (r ≤ b + 196)
         → s.waiting ≡ 0
-        → Holds out (text_of (Answer.Accepted s) (root_figure m g)) out₃ r
+        → Holds out (text_of (Ok s) (root_figure m g)) out₃ r
     all_lines {f0} {f1} {f2} {f3} e0 e1 e2 e3 u z =
         rw (eq-eqb s.waiting 0 z, sym e0, sym e1, sym e2, sym e3)
         (holds_more lines (figure_lines f0 f1 f2 f3) (omega (arith, w.2, u.0, u.2)) u.0 u.1)
 
   -- An accepting answer is of a graph that keeps the rules, and gives its counts.
-  module _ {s : Summary} (e : graph_answer m g ≡ Answer.Accepted s) where
+  module _ {s : Summary} (e : graph_answer m g ≡ Ok s) where
     pub answer-valid : Valid m g
     unfolding graph_answer
     answer-valid = (accepted-valid m g).0 (answer-is (graph_outcome m g) (summary G) s e).0

@@ -1,6 +1,6 @@
 -- Document 01, "Pedal example": what the check program prints.
 -- Assumes nothing.
-use Rattle.std.specs.Prelude.{ℕ, ◌+◌, List, [], ◌++◌, eqb}
+use Rattle.std.specs.Prelude.{ℕ, ◌+◌, List, [], ◌++◌, eqb, Err, Ok}
 use Rattle.mdp.specs.Graph.{figure}
 use Rattle.folder.specs.Pick.{pick}
 use Rattle.folder.specs.declared.Refusal.{Refusal}
@@ -9,10 +9,8 @@ use Rattle.model.specs.Model.{model_of}
 use Rattle.model.specs.Chances.{mdp}
 use Rattle.graph.specs.Limits.{units}
 use Rattle.graph.specs.Simulation.{simulation_of, graph}
-use Rattle.graph.specs.Table.{graph_answer}
+use Rattle.graph.specs.Table.{graph_answer, GraphAnswer}
 use Rattle.graph.specs.declared.Summary.{Summary}
-use Rattle.graph.specs.declared.GraphAnswer.{GraphAnswer}
-use Rattle.graph.specs.declared.GraphAnswer.TheVariants.{Accepted, Refused}
 
 -- The counts.
 abbrev pub counts_line : Summary → List ℕ
@@ -42,10 +40,10 @@ refused_line f = ascii "refused " ++ decimal f.number ++ ascii " " ++ decimal f.
 
 -- What is printed of an answer, `root h` being the root's figure for h steps: the figures only if no node is waiting.
 abbrev pub text_of : GraphAnswer → (ℕ → ℕ) → List ℕ
-text_of (Accepted s) root =
+text_of (Ok s) root =
     counts_line s ++ root_line s.root
     ++ pick (eqb s.waiting 0) (figure_lines (root 0) (root 1) (root 2) (root 3)) []
-text_of (Refused f) root = refused_line f
+text_of (Err f) root = refused_line f
 
 -- The root's figure for h steps.
 abbrev pub root_figure : List ℕ → List ℕ → ℕ → ℕ

@@ -2,7 +2,7 @@
 
 #![tactic(auto)]
 
-ghost use Rattle.std.specs.Prelude.{◌≡◌, ◌+◌, ◌/◌, ◌≤◌, length};
+ghost use Rattle.std.specs.Prelude.{◌≡◌, ◌+◌, ◌/◌, ◌≤◌, length, Ok};
 ghost use Rattle.folder.specs.Fields.{field_limit};
 ghost use Rattle.text.specs.Text.{Holds, written};
 ghost use Rattle.model.specs.Model.{model_of};
@@ -10,13 +10,12 @@ ghost use Rattle.graph.specs.Limits.{most_steps};
 ghost use Rattle.graph.specs.Simulation.{simulation_of};
 ghost use Rattle.graph.specs.Table.{summary};
 ghost use Rattle.graph.specs.Valid.{Valid};
-ghost use Rattle.graph.specs.declared.GraphAnswer.TheVariants.{Accepted};
 ghost use Rattle.report.specs.Room.{text_room, line_room, latest_line};
 ghost use Rattle.report.specs.Report.{counts_line, root_line, within_line, figure_lines, refused_line};
 ghost use Rattle.report.specs.Report.{root_figure, text_of, report_text};
 
 use folder::Refusal;
-use graph::{GraphAnswer, MOST_NODES, Summary};
+use graph::{MOST_NODES, Summary};
 
 // Bytes for the whole text, which is never longer.
 pub const TEXT_ROOM: usize = 512;
@@ -85,25 +84,19 @@ fn root_figure(model: &[u8], graph: &[u8], h: usize) -> usize
 {
     let mut first = [0u32; MOST_NODES];
     let mut second = [0u32; MOST_NODES];
-    figures::figure_fill(model, graph, h, &mut first, &mut second);
+    let _ = figures::figure_fill(model, graph, h, &mut first, &mut second);
     if h % 2 == 0 {
-        wide(first[0])
+        first[0] as usize
     } else {
-        wide(second[0])
+        second[0] as usize
     }
-}
-
-fn wide(x: u32) -> usize
-    ensures { result ≡ x }
-{
-    x as usize
 }
 
 // The lines of an accepted graph.
 fn put_accepted(model: &[u8], graph: &[u8], s: Summary, out: &mut [u8]) -> usize
     requires valid { Valid model.now graph.now }
     requires s_value { (s ≡ summary (simulation_of (model_of model.now) graph.now)) × (text_room ≤ length out.old) }
-    ensures { Holds out.old (text_of (Accepted s) (root_figure model.now graph.now)) out.new result }
+    ensures { Holds out.old (text_of (Ok s) (root_figure model.now graph.now)) out.new result }
 {
     let a = put_counts(out, s);
     let b = put_root(out, a, s.root);
@@ -121,9 +114,8 @@ fn put_accepted(model: &[u8], graph: &[u8], s: Summary, out: &mut [u8]) -> usize
 pub fn report(model: &[u8], graph: &[u8], out: &mut [u8; TEXT_ROOM]) -> usize
     ensures { Holds out.old (report_text model.now graph.now) out.new result }
 {
-    let a = laguipy::graph_check(model, graph);
-    match a {
-        GraphAnswer::Refused(f) => put_refusal(out, f),
-        GraphAnswer::Accepted(s) => put_accepted(model, graph, s, out),
+    match laguipy::graph_check(model, graph) {
+        Err(f) => put_refusal(out, f),
+        Ok(s) => put_accepted(model, graph, s, out),
     }
 }

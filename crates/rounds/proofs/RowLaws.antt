@@ -11,8 +11,6 @@ use mathlib.Core.List.{List, ◌++◌}
 use borrow.Author.Tests.{eq-eqb, ne_eqb, eqb-true}
 use lib.ListN.{get_or, drop}
 use lib.Seq.{drop_at}
-use Rattle.folder.specs.Pick.{pick}
-use Rattle.folder.proofs.PickLaws.{pick-by}
 use Rattle.folder.proofs.ScanLaws.{all_true}
 use Rattle.model.specs.Model.{model_of}
 use Rattle.graph.specs.Simulation.{simulation_of}
@@ -132,12 +130,10 @@ module _ {m g : List ℕ} (A : Valid m g) where
       ∙ ap (λ (row : List ℕ). get_or row n 0) q
       ∙ begins A j (drop (nodes_of m g) s) n l)
 
-  -- The rows a and b, after k + 1 rounds, are what they are after x, which is later than k and at most h.
-  pub record Reached (k x h : ℕ) (r s a b : List ℕ) : Type 0 where
-    pub later : k < x
-    pub within : x ≤ h
-    pub first : a ≡ first_at m g x r
-    pub second : b ≡ second_at m g x s
+  -- The rows a and b are what they are after h rounds.
+  pub record Settled (h : ℕ) (r s a b : List ℕ) : Type 0 where
+    pub first : a ≡ first_at m g h r
+    pub second : b ≡ second_at m g h s
 
   module _ (k h : ℕ) (r s : List ℕ) {a b : List ℕ} (p : a ≡ first_at m g (k + 1) r) (q : b ≡ second_at m g (k + 1) s) (l : k < h) where
     equal-rounds : same_first (nodes_of m g) a b ≡ true → figures (model_of m) (simulation_of (model_of m) g) (suc k) ≡ figures (model_of m) (simulation_of (model_of m) g) k
@@ -146,16 +142,11 @@ module _ {m g : List ℕ} (A : Valid m g) where
         (λ e. alike-rounds (suc k) k r s (p ∙ rw (first-even (k + 1) r (omega arith), add-one) refl) (q ∙ rw (second-even (k + 1) s (omega arith) (omega arith), add-sub_cancel) refl) t)
         (parity k)
 
-    at-the-end : same_first (nodes_of m g) a b ≡ true → Reached k h h r s a b
-    at-the-end e =
-        let f = equal-rounds e in
+    -- After k + 1 rounds they are already, where both hold the same figures.
+    pub at-the-end : {n : ℕ} → n ≡ nodes_of m g → same_first n a b ≡ true → Settled h r s a b
+    at-the-end z e =
+        let f = equal-rounds (rw z at e) in
         record {
-          later = l;
-          within = omega arith;
           first = p ∙ first-settled k f r (k + 1) (omega arith) ∙ sym (first-settled k f r h l);
           second = q ∙ second-settled k f s (k + 1) (omega arith) ∙ sym (second-settled k f s h l);
         }
-
-    pub reached-is : {n x : ℕ} → n ≡ nodes_of m g → x ≡ pick (same_first n a b) h (k + 1) → Reached k x h r s a b
-    reached-is e i = rw (i, e) (pick-by (λ (x : ℕ). Reached k x h r s a b) (same_first (nodes_of m g) a b) at-the-end
-        (λ f. record { later = omega arith; within = omega arith; first = p; second = q }))

@@ -1,12 +1,11 @@
 -- One round from the row of the last one, in the words of mdp's rounds; and what the rows hold after h of them.
 -- Assumes nothing.
-use Rattle.std.specs.Prelude.{ℕ, ◌≤◌, ◌≡◌, Bool, List, get_or, eqb}
+use Rattle.std.specs.Prelude.{ℕ, ◌≤◌, ◌≡◌, Bool, List, get_or, eqb, Ok}
 use Rattle.mdp.specs.Graph.{start, again, shared, up, figure}
 use Rattle.folder.specs.Fields.{field_limit}
 use Rattle.folder.specs.Pick.{pick}
 use Rattle.folder.specs.Tab.{fill}
 use Rattle.folder.specs.Scan.{all}
-use Rattle.folder.specs.declared.Outcome.TheVariants.{Accepted}
 use Rattle.model.specs.Layout.{variable_count}
 use Rattle.model.specs.Model.{Model, model_of}
 use Rattle.model.specs.Chances.{mdp}
@@ -61,10 +60,10 @@ module _ (m g : List ℕ) where
 
   -- What the two rows hold after h rounds, the row given being what they held before.
   unfoldable pub first_at : ℕ → List ℕ → List ℕ
-  first_at h row = first_of (model_of m) (simulation_of (model_of m) g) h Accepted row
+  first_at h row = first_of (model_of m) (simulation_of (model_of m) g) h (Ok tt) row
 
   unfoldable pub second_at : ℕ → List ℕ → List ℕ
-  second_at h row = second_of (model_of m) (simulation_of (model_of m) g) h Accepted row
+  second_at h row = second_of (model_of m) (simulation_of (model_of m) g) h (Ok tt) row
 
   -- What a turn makes of the rows: round k + 1 goes into the row of its parity, from round k in the other.
   unfoldable pub turn_first : ℕ → List ℕ → List ℕ → List ℕ

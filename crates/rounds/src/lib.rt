@@ -2,27 +2,15 @@
 
 #![tactic(auto)]
 
-ghost use Rattle.std.specs.Prelude.{◌≡◌, ◌<◌, ◌≤◌, length, eqb};
-ghost use Rattle.folder.specs.Fields.{field_limit};
-ghost use Rattle.folder.specs.Pick.{pick};
-ghost use Rattle.folder.specs.Scan.{first_bad};
-ghost use Rattle.folder.specs.declared.Outcome.TheVariants.{Accepted};
+ghost use Rattle.std.specs.Prelude.{◌≡◌, ◌<◌, ◌≤◌, length, Ok};
 ghost use Rattle.model.specs.Model.{model_of};
 ghost use Rattle.graph.specs.Simulation.{simulation_of};
 ghost use Rattle.graph.specs.Figures.{first_of, second_of};
 ghost use Rattle.graph.specs.Valid.{Valid};
 ghost use Rattle.sums.specs.Tables.{Tables, Round};
-ghost use Rattle.rounds.specs.Rounds.{nodes_of, Shaped, own_start_row, own_next_row, cover_row, start_row, next_row, first_at, second_at, turn_first, turn_second, held_in, alike, same_first};
+ghost use Rattle.rounds.specs.Rounds.{nodes_of, Shaped, own_start_row, own_next_row, cover_row, start_row, next_row, first_at, second_at, turn_first, turn_second, held_in, same_first};
 
-use graph::COVERED;
 use model::{MOST_COMMANDS, MOST_RECORDS};
-
-// D.
-fn total_of(m: &[u8]) -> usize
-    ensures { (result ≡ (model_of m.now).total) × (result < field_limit) }
-{
-    folder::field(4, folder::body(m, 0), 0, 0)
-}
 
 // Of a graph: the bytes of a node, and how many nodes there are.
 #[derive(Clone, Copy)]
@@ -48,22 +36,18 @@ fn fill_next(m: &[u8], g: &[u8], weights: &[usize], firsts: &[usize], src: &[u32
     requires g_in_bounds { nodes_of m.now g.now ≤ length dst.old }
     ensures { dst.new ≡ own_next_row m.now g.now src.now dst.old }
 {
-    let shape = shape_of(m, g);
-    let size = shape.size;
-    let nodes = shape.nodes;
-    let d = total_of(m);
+    let Shape { size, nodes } = shape_of(m, g);
+    let d = sums::total_of(m);
     let cs = folder::body(m, 3);
     let nb = folder::body(g, 0);
     let eb = folder::body(g, 1);
     let mut at = 0;
-    let mut n = 0;
-    while n < nodes {
+    for n in 0..nodes {
         let kind = folder::field(size, nb, n, 0);
         let count = folder::field(size, nb, n, 4);
         let best = sums::best_of(cs, eb, weights, firsts, src, at, count);
         dst[n] = sums::figure_by(kind, best.greatest, d);
         at = best.next;
-        n += 1;
     }
 }
 
@@ -73,23 +57,12 @@ fn fill_start(m: &[u8], g: &[u8], dst: &mut [u32])
     requires g_in_bounds { nodes_of m.now g.now ≤ length dst.old }
     ensures { dst.new ≡ own_start_row m.now g.now dst.old }
 {
-    let shape = shape_of(m, g);
-    let size = shape.size;
-    let nodes = shape.nodes;
+    let Shape { size, nodes } = shape_of(m, g);
     let nb = folder::body(g, 0);
-    let mut n = 0;
-    while n < nodes {
+    for n in 0..nodes {
         let kind = folder::field(size, nb, n, 0);
         dst[n] = sums::figure_by(kind, 0, 1);
-        n += 1;
     }
-}
-
-// Whose figure a node takes.
-fn source_of(kind: usize, cover: usize, n: usize) -> usize
-    ensures { result ≡ pick (eqb kind 2) cover n }
-{
-    if kind == COVERED { cover } else { n }
 }
 
 // Each covered node takes its cover's figure of the same round. A cover is not covered, so its figure stands.
@@ -98,17 +71,13 @@ fn fill_covers(m: &[u8], g: &[u8], dst: &mut [u32])
     requires g_in_bounds { nodes_of m.now g.now ≤ length dst.old }
     ensures { dst.new ≡ cover_row m.now g.now dst.old }
 {
-    let shape = shape_of(m, g);
-    let size = shape.size;
-    let nodes = shape.nodes;
+    let Shape { size, nodes } = shape_of(m, g);
     let nb = folder::body(g, 0);
-    let mut n = 0;
-    while n < nodes {
+    for n in 0..nodes {
         let kind = folder::field(size, nb, n, 0);
         let cover = folder::field(size, nb, n, 1);
-        let from = source_of(kind, cover, n);
+        let from = sums::source_of(kind, cover, n);
         dst[n] = dst[from];
-        n += 1;
     }
 }
 
@@ -157,31 +126,15 @@ fn turn(
     }
 }
 
-// The lowest of the first n elements in which the rows differ, or n.
-fn first_unlike(n: usize, a: &[u32], b: &[u32]) -> usize
+// Whether the rows have the same first n elements.
+fn same_first(n: usize, a: &[u32], b: &[u32]) -> bool
     requires { (n ≤ length a.now) × (n ≤ length b.now) }
-    ensures { result ≡ first_bad (alike a.now b.now) n }
+    ensures { result ≡ same_first n a.now b.now }
 {
-    let mut i = 0;
-    while i < n {
-        if a[i] == b[i] {
-            i += 1;
-        } else {
-            return i;
-        }
-    }
-    i
+    folder::all(n, |i| a[i] == b[i])
 }
 
-// The round that the rows have come to, of h: k, unless both hold the same figures. Then every later round is the same.
-fn reached(n: usize, a: &[u32], b: &[u32], k: usize, h: usize) -> usize
-    requires { (n ≤ length a.now) × (n ≤ length b.now) }
-    ensures { result ≡ pick (same_first n a.now b.now) h k }
-{
-    if first_unlike(n, a, b) == n { h } else { k }
-}
-
-// Round 0, then a turn for each round until h, or until rounds are equal.
+// Round 0, then a turn for each round until h, or until two are equal. Then every later round is the same.
 fn turns(
     m: &[u8],
     g: &[u8],
@@ -197,13 +150,13 @@ fn turns(
     ensures first_after { first.new ≡ first_at m.now g.now h first.old }
     ensures second_after { second.new ≡ second_at m.now g.now h second.old }
 {
-    let shape = shape_of(m, g);
-    let nodes = shape.nodes;
+    let Shape { nodes, .. } = shape_of(m, g);
     start_round(m, g, first);
-    let mut k = 0;
-    while k < h {
+    for k in 0..h {
         turn(m, g, weights, firsts, k, first, second);
-        k = reached(nodes, first, second, k + 1, h);
+        if same_first(nodes, first, second) {
+            return;
+        }
     }
 }
 
@@ -211,8 +164,8 @@ fn turns(
 pub fn run_rounds(m: &[u8], g: &[u8], h: usize, first: &mut [u32], second: &mut [u32])
     requires valid { Valid m.now g.now }
     requires g_in_bounds { (nodes_of m.now g.now ≤ length first.old) × (nodes_of m.now g.now ≤ length second.old) }
-    ensures first_after { first.new ≡ first_of (model_of m.now) (simulation_of (model_of m.now) g.now) h Accepted first.old }
-    ensures second_after { second.new ≡ second_of (model_of m.now) (simulation_of (model_of m.now) g.now) h Accepted second.old }
+    ensures first_after { first.new ≡ first_of (model_of m.now) (simulation_of (model_of m.now) g.now) h (Ok tt) first.old }
+    ensures second_after { second.new ≡ second_of (model_of m.now) (simulation_of (model_of m.now) g.now) h (Ok tt) second.old }
 {
     let mut weights = [0usize; MOST_RECORDS];
     let mut firsts = [0usize; MOST_COMMANDS];

@@ -55,12 +55,7 @@ field_is u z l h =
     same_test (same u (bits z))
     (reworded (λ e. sym (bits-signed u l) ∙ ap bits e) (λ e. ap signed16 e ∙ signed-bits z h) (equal-decided (signed16 u) z))
 
--- What the code's test of a variable answers.
-pub value-tested : (vars : ℕ) (nb : List ℕ) (n v : ℕ) (x : List ℤ) {size : ℕ} {z : ℤ} {t : Bool} → size ≡ node_size vars → z ≡ get_or x v (pos 0)
-    → t ≡ eq_z (signed_field size nb n (6 + v)) z → t ≡ value_is vars nb n x v
-value-tested vars nb n v x p q e = cc
-
--- All of them: the label is x.
+-- All values are x's: the label is x.
 pub label-tested : (nb : List ℕ) (n : ℕ) (x : List ℤ) → all (value_is (length x) nb n x) (length x) ≡ same_state (label_in (length x) nb n) x
 label-tested nb n x =
     same_test

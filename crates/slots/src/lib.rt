@@ -3,7 +3,7 @@
 
 #![tactic(auto)]
 
-ghost use Rattle.std.specs.Prelude.{◌≡◌, ◌+◌, ◌/◌, ◌<◌, ◌≤◌, get_or, length, ltb};
+ghost use Rattle.std.specs.Prelude.{◌≡◌, ◌+◌, ◌/◌, ◌<◌, ◌≤◌, get_or, length, ltb, pos};
 ghost use Rattle.folder.specs.Pick.{pick};
 ghost use Rattle.folder.specs.Fields.{field_limit};
 ghost use Rattle.folder.specs.Contents.{signed_field};
@@ -17,7 +17,7 @@ ghost use Rattle.slots.specs.Nodes.{label_in, high_of, Hashed, other_hash, passe
 use expressions::MOST_VARIABLES;
 use folder::FIELD_LIMIT;
 
-// What an empty slot holds.
+// What an empty slot holds: a number, since the row crosses to C.
 pub const NO_NODE: u16 = (FIELD_LIMIT - 1) as u16;
 
 // The concrete value of variable v in node n.
@@ -28,12 +28,12 @@ fn value_in(size: usize, nb: &[u8], n: usize, v: usize) -> i16
     folder::signed_of(folder::field(size, nb, n, 6 + v)) as i16
 }
 
-// That value is x.
-fn value_is(size: usize, nb: &[u8], n: usize, v: usize, x: i16) -> bool
-    requires { (size ≤ field_limit) × (n < field_limit) × (v ≤ most_variables) }
-    ensures { result ≡ eq_z (signed_field size nb.now n (6 + v)) x }
+// That value is the one in x.
+fn value_is(size: usize, nb: &[u8], n: usize, x: &[i16], v: usize) -> bool
+    requires { (size ≤ field_limit) × (n < field_limit) × (v ≤ most_variables) × (v < length x.now) }
+    ensures { result ≡ eq_z (signed_field size nb.now n (6 + v)) (get_or x.now v (pos 0)) }
 {
-    folder::field(size, nb, n, 6 + v) == hash::bits_of(x)
+    folder::field(size, nb, n, 6 + v) == hash::bits_of(x[v])
 }
 
 // The concrete label of node n, at the front of the row.
@@ -42,11 +42,7 @@ fn load_label(nb: &[u8], vars: usize, n: usize, row: &mut [i16])
     ensures { row.new ≡ fill vars (λ v. signed_field (node_size vars) nb.now n (6 + v)) row.old }
 {
     let size = graph::node_size(vars);
-    let mut v = 0;
-    while v < vars {
-        row[v] = value_in(size, nb, n, v);
-        v += 1;
-    }
+    folder::fill(row, vars, |v| value_in(size, nb, n, v));
 }
 
 // The concrete label of node n is x.
@@ -54,17 +50,8 @@ fn label_is(nb: &[u8], n: usize, x: &[i16]) -> bool
     requires { (length x.now ≤ most_variables) × (n < field_limit) }
     ensures { result ≡ same_state (label_in (length x.now) nb.now n) x.now }
 {
-    let vars = x.len();
-    let size = graph::node_size(vars);
-    let mut v = 0;
-    while v < vars {
-        if value_is(size, nb, n, v, x[v]) {
-            v += 1;
-        } else {
-            return false;
-        }
-    }
-    true
+    let size = graph::node_size(x.len());
+    folder::all(x.len(), |v| value_is(size, nb, n, x, v))
 }
 
 // The half of a hash that a slot's number does not tell.
@@ -78,11 +65,7 @@ fn high_half(h: u32) -> u16
 fn other_hash(hashes: &[u16], n: usize, h: u16) -> bool
     ensures { result ≡ other_hash hashes.now n h }
 {
-    if n < hashes.len() {
-        hashes[n] != h
-    } else {
-        false
-    }
+    n < hashes.len() && hashes[n] != h
 }
 
 // A slot that holds r is passed in a look-up of x, whose hash has the high half h. Labels with other hashes are other
@@ -91,13 +74,7 @@ fn passes(nb: &[u8], hashes: &[u16], r: u16, h: u16, x: &[i16]) -> bool
     requires { (length x.now ≤ most_variables) × Hashed (length x.now) nb.now hashes.now × (h ≡ high_of x.now) }
     ensures { result ≡ passes (length x.now) nb.now r x.now }
 {
-    if other_hash(hashes, r as usize, h) {
-        true
-    } else if r == NO_NODE {
-        false
-    } else {
-        !label_is(nb, r as usize, x)
-    }
+    other_hash(hashes, r as usize, h) || (r != NO_NODE && !label_is(nb, r as usize, x))
 }
 
 // The slot after p, round the end.
@@ -117,14 +94,11 @@ fn probe(nb: &[u8], hashes: &[u16], row: &[u16], x: &[i16]) -> usize
     let whole = hash::hash(x);
     let h = high_half(whole);
     let mut p = whole as usize % slots;
-    let mut d = 0;
-    while d < slots {
-        if passes(nb, hashes, row[p], h, x) {
-            p = next_slot(p, slots);
-            d += 1;
-        } else {
+    for d in 0..slots {
+        if !passes(nb, hashes, row[p], h, x) {
             return p;
         }
+        p = next_slot(p, slots);
     }
     p
 }
@@ -163,11 +137,7 @@ pub fn hash_all(nb: &[u8], vars: usize, hashes: &mut [u16])
     ensures { Hashed vars nb.now hashes.new }
 {
     let n = hashes.len();
-    let mut i = 0;
-    while i < n {
-        hashes[i] = hash_node(nb, vars, i);
-        i += 1;
-    }
+    folder::fill(hashes, n, |i| hash_node(nb, vars, i));
 }
 
 // Node n enters if its label is new.
@@ -188,11 +158,7 @@ fn clear(row: &mut [u16])
     ensures { row.new ≡ tab (length row.old) (λ p. no_node) }
 {
     let slots = row.len();
-    let mut p = 0;
-    while p < slots {
-        row[p] = NO_NODE;
-        p += 1;
-    }
+    folder::fill(row, slots, |_| NO_NODE);
 }
 
 // The row is filled afresh: nodes 0 to n - 1 enter, each only if its label is new.
@@ -201,9 +167,7 @@ pub fn enter_all(nb: &[u8], vars: usize, n: usize, hashes: &[u16], row: &mut [u1
     ensures { row.new ≡ slots_after (label_in vars nb.now) (length row.old) n }
 {
     clear(row);
-    let mut i = 0;
-    while i < n {
+    for i in 0..n {
         enter(nb, vars, hashes, i as u16, row);
-        i += 1;
     }
 }

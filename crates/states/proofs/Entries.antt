@@ -1,14 +1,12 @@
 -- What an entry is in a state, from a row that has what its parts are.
 -- Assumes nothing.
-use Prim.Native.Nat.{ℕ, ◌+◌, ◌<◌, ◌≤◌}
+use Prim.Native.Nat.{ℕ, ◌<◌, ◌≤◌}
 use mathlib.Core.Path.{◌≡◌, refl, sym, ap, ◌∙◌}
 use mathlib.Core.Bool.{Bool, true, false}
 use mathlib.Core.List.{List}
-use native.Mathlib.Decide.{ℕ_discrete, dec_lt}
 use native.Mathlib.Omega.{arith}
 use borrow.Author.Tests.{not-true}
-use lib.ListN.{get_or, length, set, length-set}
-use lib.Seq.{get_or-set_same, get_or-set_other}
+use lib.ListN.{get_or, length}
 use lib.IntN.{ℤ, pos}
 use lib.Signed.{mag}
 use Rattle.folder.specs.Pick.{pick}
@@ -32,7 +30,7 @@ use Rattle.expressions.proofs.Related.{number_step_lem, truth-step}
 use Rattle.expressions.proofs.Small.{small}
 use Rattle.evaluate.specs.Formed.{Grounded}
 use Rattle.evaluate.proofs.Readable.{narrow}
-use Rattle.states.specs.Stated.{truth_number, entry_in, HasEntry, HasFlagged, Parted, StateRow}
+use Rattle.states.specs.Stated.{truth_number, entry_in, HasEntry, HasFlagged, Parted}
 
 -- A truth read back from its number.
 pub truth-back : (b : Bool) → eq_z (truth_number b) (pos 1) ≡ b
@@ -121,32 +119,6 @@ module _ (x : Entries) (s : State) (known : List ℕ) (row : List ℤ) where
     pub is : (k : ℕ) → k < e → HasEntry x s row k
     pub flagged : HasFlagged x s row known
 
-  pub stated-start : HasFlagged x s row known → StatedTo (length row) 0
-  stated-start f = record { long = refl; is = λ k l. absurd (omega arith); flagged = f }
-
   module _ {size e : ℕ} (h : StatedTo size e) where
     pub stated-parted : Grounded x s → Parted x s row e
     stated-parted g = parted-below x (lower x g.variables g.formed.right) s row e h.is
-
-    pub stated-over : x.count ≤ e → StateRow x s row
-    stated-over l = record { is = λ k m. h.is k (omega arith) }
-
--- An entry that is written as it is in the state leaves what is right in the row right.
-module _ (x : Entries) (s : State) (row : List ℤ) {e : ℕ} {z : ℤ} (right : z ≡ entry_in x s e) (there : e < length row) where
-  pub still-has : (k : ℕ) → HasEntry x s row k → HasEntry x s (set row e z) k
-  still-has k h = go (ℕ_discrete k e)
-    where
-      go : Dec (k ≡ e) → HasEntry x s (set row e z) k
-      go (yes q) = rw q (get_or-set_same row e z (pos 0) there ∙ right)
-      go (no d) = get_or-set_other row e k z (pos 0) d ∙ h
-
-  pub stated-next : {known : List ℕ} {size : ℕ} → StatedTo x s known row size e → StatedTo x s known (set row e z) size (e + 1)
-  stated-next h = record {
-    long = length-set row e z ∙ h.long;
-    is = λ k m. go k (dec_lt k e) m;
-    flagged = record { is = λ k l u. still-has k (h.flagged.is k l u) };
-  }
-    where
-      go : (k : ℕ) → Dec (k < e) → k < e + 1 → HasEntry x s (set row e z) k
-      go k (yes b) m = still-has k (h.is k b)
-      go k (no b) m = let p : k ≡ e = omega arith in rw p (get_or-set_same row e z (pos 0) there ∙ right)

@@ -18,10 +18,7 @@ use Rattle.expressions.specs.Right.{IsNumber, IsTruth, EntryRight}
 use Rattle.expressions.specs.Combinations.{Label, Holds, Proper, combination}
 use Rattle.expressions.specs.Mentions.{mentions}
 use Rattle.expressions.specs.States.{ways, number_by, truth_by, number_by_all, truth_by_all, number_three, truth_three, number_read, truth_read}
-use Rattle.expressions.specs.declared.Number.{Number}
-use Rattle.expressions.specs.declared.Number.TheVariants.{Known, Unknown as Open}
-use Rattle.expressions.specs.declared.Truth.{Truth}
-use Rattle.expressions.specs.declared.Truth.TheVariants.{True, False, Unknown}
+use Rattle.expressions.specs.ThreeWay.{Number, Truth}
 use Rattle.expressions.proofs.Decided.{number-decided, truth-decided}
 use Rattle.expressions.proofs.Forms.{no_number, no_truth}
 use Rattle.expressions.proofs.Sound.{known_is, true-is, false-is}
@@ -30,6 +27,7 @@ use Rattle.evaluate.specs.Settled.{as_number, content_of, entry_reading}
 use Rattle.states.specs.Stated.{truth_number, entry_in}
 use Rattle.states.specs.Read.{is_known_number, entry_read, reads_known}
 use Rattle.states.proofs.Entries.{truth-back, entry-number, entry-truth}
+use Rattle.std.specs.Prelude.{None, Some}
 
 -- ---- an entry is of one of the sorts
 pub truth-else : (x : Entries) (variables e : ℕ) → EntryRight x variables e → is_number x e ≡ false → IsTruth x e
@@ -70,12 +68,12 @@ module _ (x : Entries) (L : Label) (e : ℕ) where
         go false q = t (truth-else x variables e right q)
 
     -- ---- known three ways
-    as-known : (t : Truth) (z : ℤ) → as_number t ≡ Known z → (b : Bool) × (t ≡ known_truth b)
-    as-known True z h = (true, refl)
-    as-known False z h = (false, refl)
-    as-known Unknown z h = absurd (let k : ◌≡◌ {A = ℕ} 0 1 = cc in omega arith)
+    as-known : (t : Truth) (z : ℤ) → as_number t ≡ Some z → (b : Bool) × (t ≡ known_truth b)
+    as-known (Some true) z h = (true, refl)
+    as-known (Some false) z h = (false, refl)
+    as-known None z h = absurd (let k : ◌≡◌ {A = ℕ} 0 1 = cc in omega arith)
 
-    pub stays-known : Proper L → (z : ℤ) → entry_reading x (look_in L.tracked L.values) e ≡ Known z → reads_known x L e ≡ true
+    pub stays-known : Proper L → (z : ℤ) → entry_reading x (look_in L.tracked L.values) e ≡ Some z → reads_known x L e ≡ true
     stays-known P z h = by-sort
         (λ i. ap is_known_number (read_number i ∙ number-stays x L P e z (sym (three-number i) ∙ h)))
         (λ i.
@@ -92,7 +90,7 @@ module _ (x : Entries) (L : Label) (e : ℕ) where
       as-content true = refl
       as-content false = refl
 
-      pub three-is : (z : ℤ) → entry_reading x (look_in L.tracked L.values) e ≡ Known z → entry_in x s e ≡ z
+      pub three-is : (z : ℤ) → entry_reading x (look_in L.tracked L.values) e ≡ Some z → entry_in x s e ≡ z
       three-is z q = by-sort
           (λ i. entry-number x s e i ∙ known_is z (says-number x L P e s h) (number-stays x L P e z (sym (three-number i) ∙ q)))
           (λ i.
@@ -109,7 +107,7 @@ module _ (x : Entries) (L : Label) (e : ℕ) where
     unfolding truth_read
     truth-above many = rw (lt-leb (ways x L e) most_combinations many) refl
 
-    pub unknown-above : most_combinations < ways x L e → entry_reading x (look_in L.tracked L.values) e ≡ Open → reads_known x L e ≡ false
+    pub unknown-above : most_combinations < ways x L e → entry_reading x (look_in L.tracked L.values) e ≡ None → reads_known x L e ≡ false
     unknown-above many h = by-sort
         (λ i. ap is_known_number (read_number i ∙ number-above many ∙ sym (three-number i) ∙ h))
         (λ i. ap is_known_number (read-truth i ∙ ap as_number (truth-above many) ∙ sym (three-truth i) ∙ h))
@@ -142,13 +140,13 @@ module _ (x : Entries) (L : Label) (e : ℕ) where
     -- ---- what reads known is the same in all states of the label
     module _ (P : Proper L) (s s' : State) (h : Holds L s) (h' : Holds L s') where
       number_same : (a : Number) → number_read x L e ≡ a → is_known_number a ≡ true → number_in x s e ≡ number_in x s' e
-      number_same (Known z) q k = known_is z (says-number x L P e s h) q ∙ sym (known_is z (says-number x L P e s' h') q)
-      number_same Open q k = absurd (false≢true k)
+      number_same (Some z) q k = known_is z (says-number x L P e s h) q ∙ sym (known_is z (says-number x L P e s' h') q)
+      number_same None q k = absurd (false≢true k)
 
       truth-same : (a : Truth) → truth_read x L e ≡ a → is_known_number (as_number a) ≡ true → truth_in x s e ≡ truth_in x s' e
-      truth-same True q k = true-is (says_truth x L P e s h) q ∙ sym (true-is (says_truth x L P e s' h') q)
-      truth-same False q k = false-is (says_truth x L P e s h) q ∙ sym (false-is (says_truth x L P e s' h') q)
-      truth-same Unknown q k = absurd (false≢true k)
+      truth-same (Some true) q k = true-is (says_truth x L P e s h) q ∙ sym (true-is (says_truth x L P e s' h') q)
+      truth-same (Some false) q k = false-is (says_truth x L P e s h) q ∙ sym (false-is (says_truth x L P e s' h') q)
+      truth-same None q k = absurd (false≢true k)
 
       pub known_same : reads_known x L e ≡ true → entry_in x s e ≡ entry_in x s' e
       known_same k = by-sort

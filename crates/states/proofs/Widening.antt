@@ -125,7 +125,7 @@ module _ (x : Entries) (y : List ℕ) (v : List ℤ) (masks : List ℕ) (state :
     asked_in = rw (not-up, mq, asked.masked.is e asked.there, eq-eqb (union (mentions x e) t) (union (mentions x e) t) refl) refl
 
     pub one-differs : (list : List ℕ) → OneDiffers x L m w e list state → Widened x L e known known
-    one-differs list d = widened_none (denied (reads_known x L e) (λ k.
+    one-differs _ d = widened_none (denied (reads_known x L e) (λ k.
         d.differs
         (known_same x L e _ (asked.readable.formed.right e asked.there) asked.readable.proper (combination L m d.place) asked.concrete.own
         (combination-holds L m asked.readable.proper d.place) asked.concrete.holds k

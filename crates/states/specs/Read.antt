@@ -1,6 +1,6 @@
 -- How entries read in a label by document 02, 2.4, whatever their sort, and a row of flags for those that read known.
 -- Assumes nothing.
-use Rattle.std.specs.Prelude.{ℕ, ◌<◌, ◌≤◌, ◌≡◌, Bool, true, false, List, get_or, length, ℤ, pos}
+use Rattle.std.specs.Prelude.{ℕ, ◌<◌, ◌≤◌, ◌≡◌, Bool, true, false, List, get_or, length, ℤ, pos, None, Some}
 use Rattle.folder.specs.Pick.{pick}
 use Rattle.folder.specs.Contents.{count_of}
 use Rattle.expressions.specs.Limits.{most_expressions}
@@ -10,8 +10,7 @@ use Rattle.expressions.specs.Ranges.{bound_in}
 use Rattle.expressions.specs.Reading.{look_in}
 use Rattle.expressions.specs.Combinations.{Label, Holds, Proper, combination}
 use Rattle.expressions.specs.States.{number_read, truth_read}
-use Rattle.expressions.specs.declared.Number.{Number}
-use Rattle.expressions.specs.declared.Number.TheVariants.{Known, Unknown}
+use Rattle.expressions.specs.ThreeWay.{Number}
 use Rattle.mentions.specs.Masked.{Masked}
 use Rattle.evaluate.specs.Formed.{Formed}
 use Rattle.evaluate.specs.Settled.{as_number, entry_reading}
@@ -20,8 +19,8 @@ use Rattle.states.specs.Stated.{entry_in, StateRow}
 use Rattle.states.specs.Needed.{is_up, Up}
 
 abbrev pub is_known_number : Number → Bool
-is_known_number (Known z) = true
-is_known_number Unknown = false
+is_known_number (Some z) = true
+is_known_number None = false
 
 module _ (x : Entries) (L : Label) where
   -- How entry e reads, by its sort; and whether it reads known.
@@ -34,7 +33,7 @@ module _ (x : Entries) (L : Label) where
   -- What is flagged reads known; what is not is unknown three ways, so that it may be looked at yet.
   pub record Flagged (known : List ℕ) : Type 0 where
     pub sound : (e : ℕ) → e < x.count → Up known e → reads_known e ≡ true
-    pub unknown : (e : ℕ) → e < x.count → (Up known e → ⊥) → entry_reading x (look_in L.tracked L.values) e ≡ Unknown
+    pub unknown : (e : ℕ) → e < x.count → (Up known e → ⊥) → entry_reading x (look_in L.tracked L.values) e ≡ None
 
   -- The row has what the entries are in one of the label's states.
   pub record Concrete (state : List ℤ) : Type 0 where

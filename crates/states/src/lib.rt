@@ -13,7 +13,7 @@ ghost use Rattle.expressions.specs.Limits.{most_expressions, most_combinations};
 ghost use Rattle.expressions.specs.Entries.{entries_of, number_form, truth_form};
 ghost use Rattle.expressions.specs.Parts.{EachN, EachT, Lower};
 ghost use Rattle.expressions.specs.Meaning.{joins, number_in, truth_in};
-ghost use Rattle.expressions.specs.Mentions.{union, mentions};
+ghost use Rattle.expressions.specs.Mentions.{mentions};
 ghost use Rattle.expressions.specs.Ranges.{bound_in};
 ghost use Rattle.expressions.specs.Combinations.{combinations};
 ghost use Rattle.evaluate.specs.Formed.{Grounded};
@@ -50,8 +50,7 @@ fn number_of(x: &[u8], s: &[i64], row: &[i64], e: usize) -> i64
     requires e_le_field_limit { e ≤ field_limit }
     ensures { result ≡ number_in (entries_of x.now) s.now e }
 {
-    let f = expressions::number_form(x, e);
-    match f {
+    match expressions::number_form(x, e) {
         NumberForm::Constant(z) => z,
         NumberForm::Variable(i) => evaluate::value_at(s, i),
         NumberForm::Binary(k, p, q) => {
@@ -74,8 +73,7 @@ fn truth_of(x: &[u8], s: &[i64], row: &[i64], e: usize) -> bool
     requires e_le_field_limit { e ≤ field_limit }
     ensures { result ≡ truth_in (entries_of x.now) s.now e }
 {
-    let f = expressions::truth_form(x, e);
-    match f {
+    match expressions::truth_form(x, e) {
         TruthForm::Compare(k, p, q) => {
             evaluate::relate(k, evaluate::value_at(row, p), evaluate::value_at(row, q))
         }
@@ -86,6 +84,7 @@ fn truth_of(x: &[u8], s: &[i64], row: &[i64], e: usize) -> bool
     }
 }
 
+#[tactic(auto, unfolding(crate::specs::Stated::entry_in))]
 fn entry_of(x: &[u8], s: &[i64], row: &[i64], e: usize) -> i64
     requires grounded { Grounded (entries_of x.now) s.now }
     requires parted { Parted (entries_of x.now) s.now row.now e }
@@ -95,7 +94,7 @@ fn entry_of(x: &[u8], s: &[i64], row: &[i64], e: usize) -> i64
     if expressions::is_number(x, e) {
         return number_of(x, s, row, e);
     }
-    if truth_of(x, s, row, e) { 1 } else { 0 }
+    i64::from(truth_of(x, s, row, e))
 }
 
 // What entry e is: where it is flagged it stands in the row, else it is worked out.
@@ -120,17 +119,9 @@ pub fn fill_state(x: &[u8], s: &[i64], known: &[u8], row: &mut [i64])
     ensures { StateRow (entries_of x.now) s.now row.new }
 {
     let n = folder::count_of(8, x);
-    let mut e = 0;
-    while e < n {
+    for e in 0..n {
         row[e] = entry_kept(x, s, known, row, e);
-        e += 1;
     }
-}
-
-fn wide(e: u16) -> usize
-    ensures { result ≡ e }
-{
-    e as usize
 }
 
 // Those of the list alone.
@@ -141,33 +132,19 @@ fn refresh(x: &[u8], s: &[i64], list: &[u16], row: &mut [i64])
     requires x_in_bounds { count_of 8 x.now ≤ length row.old }
     ensures { HasAll (entries_of x.now) s.now row.new list.now }
 {
-    let n = list.len();
-    let mut i = 0;
-    while i < n {
-        let e = wide(list[i]);
+    for e in list {
+        let e = usize::from(*e);
         row[e] = entry_of(x, s, row, e);
-        i += 1;
     }
 }
 
 // ---- the entries to look at
 
-fn union_of(a: usize, b: usize) -> usize
-    ensures { result ≡ union a b }
-{
-    a | b
-}
-
-fn flag_if(b: bool) -> u8
-    ensures { result ≡ flag_if b }
-{
-    if b { 1 } else { 0 }
-}
-
+#[tactic(auto, unfolding(crate::specs::Needed::in_group, expressions::specs::Mentions::union))]
 fn in_group(masks: &[u16], known: &[u8], m: usize, t: usize, k: usize) -> bool
     ensures { result ≡ in_group masks.now known.now m t k }
 {
-    let same = union_of(mentions::mask_at(masks, k), t) == union_of(m, t);
+    let same = mentions::mask_at(masks, k) | t == m | t;
     (folder::byte_at(known, k) != 1) & same
 }
 
@@ -176,11 +153,7 @@ fn mark_group(n: usize, masks: &[u16], known: &[u8], m: usize, t: usize, flags: 
     requires { n ≤ length flags.old }
     ensures { flags.new ≡ fill n (λ k. flag_if (in_group masks.now known.now m t k)) flags.old }
 {
-    let mut k = 0;
-    while k < n {
-        flags[k] = flag_if(in_group(masks, known, m, t, k));
-        k += 1;
-    }
+    folder::fill(flags, n, |k| u8::from(in_group(masks, known, m, t, k)));
 }
 
 // Raises the flag of entry e, if it has one.
@@ -199,10 +172,8 @@ fn mark_number(x: &[u8], flags: &mut [u8], e: usize)
     ensures raised { Raised e flags.old flags.new }
     ensures each_n { EachN (Up flags.new) (Up flags.new) (number_form (entries_of x.now) e) }
 {
-    let f = expressions::number_form(x, e);
-    match f {
-        NumberForm::Constant(_) => {}
-        NumberForm::Variable(_) => {}
+    match expressions::number_form(x, e) {
+        NumberForm::Constant(_) | NumberForm::Variable(_) | NumberForm::NoNumber => {}
         NumberForm::Binary(_, p, q) => {
             raise(flags, p);
             raise(flags, q);
@@ -212,7 +183,6 @@ fn mark_number(x: &[u8], flags: &mut [u8], e: usize)
             raise(flags, p);
             raise(flags, q);
         }
-        NumberForm::NoNumber => {}
     }
 }
 
@@ -222,21 +192,13 @@ fn mark_truth(x: &[u8], flags: &mut [u8], e: usize)
     ensures raised { Raised e flags.old flags.new }
     ensures each_t { EachT (Up flags.new) (Up flags.new) (truth_form (entries_of x.now) e) }
 {
-    let f = expressions::truth_form(x, e);
-    match f {
-        TruthForm::Compare(_, p, q) => {
+    match expressions::truth_form(x, e) {
+        TruthForm::Compare(_, p, q) | TruthForm::Joined(_, p, q) => {
             raise(flags, p);
             raise(flags, q);
         }
-        TruthForm::Not(p) => {
-            raise(flags, p);
-        }
-        TruthForm::Joined(_, p, q) => {
-            raise(flags, p);
-            raise(flags, q);
-        }
-        TruthForm::Always => {}
-        TruthForm::NoTruth => {}
+        TruthForm::Not(p) => raise(flags, p),
+        TruthForm::Always | TruthForm::NoTruth => {}
     }
 }
 
@@ -261,9 +223,7 @@ fn close(x: &[u8], flags: &mut [u8])
     ensures by_index { (k : ℕ) → Up flags.old k → Up flags.new k }
     ensures closed_from { ClosedFrom (entries_of x.now) flags.new 0 }
 {
-    let mut e = folder::count_of(8, x);
-    while e > 0 {
-        e -= 1;
+    for e in (0..folder::count_of(8, x)).rev() {
         mark_parts(x, flags, e);
     }
 }
@@ -288,16 +248,15 @@ fn list_flagged(n: usize, flags: &[u8], list: &mut [u16]) -> usize
     ensures list_after { list.new ≡ passing n (is_up flags.now) ++ drop (length (passing n (is_up flags.now))) list.old }
 {
     let mut count = 0;
-    let mut e = 0;
-    while e < n {
+    for e in 0..n {
         count = list_one(flags, list, count, e);
-        e += 1;
     }
     count
 }
 
 // ---- what all combinations agree on
 
+// A function, and so `either_up`: an `if` in a loop that writes a row leaves a joined state.
 fn kept_if(same: bool, flag: u8) -> u8
     ensures { result ≡ kept_if same flag }
 {
@@ -309,13 +268,10 @@ fn compare(list: &[u16], values: &[i64], state: &[i64], flags: &mut [u8])
     requires { (i : ℕ) → i < length list.now → get_or list.now i 0 < length flags.old }
     ensures { Compared list.now values.now state.now flags.old flags.new }
 {
-    let n = list.len();
-    let mut i = 0;
-    while i < n {
-        let e = wide(list[i]);
+    for e in list {
+        let e = usize::from(*e);
         let same = whole::equal(evaluate::value_at(values, e), evaluate::value_at(state, e));
         flags[e] = kept_if(same, flags[e]);
-        i += 1;
     }
 }
 
@@ -330,10 +286,8 @@ fn raise_all(n: usize, other: &[u8], flags: &mut [u8])
     requires { (n ≤ length other.now) × (n ≤ length flags.old) }
     ensures { flags.new ≡ fill n (λ k. either_up (get_or other.now k 0) (get_or flags.old k 0)) flags.old }
 {
-    let mut k = 0;
-    while k < n {
+    for k in 0..n {
         flags[k] = either_up(other[k], flags[k]);
-        k += 1;
     }
 }
 
@@ -368,20 +322,14 @@ fn enumerate(
     ensures one_differs { result ≡ false → OneDiffers (entries_of x.now) (label_in y.now q.tracked vals.now) q.mask q.ways q.entry list.now state.now }
 {
     let mut values = [0i64; MOST_EXPRESSIONS];
-    let e = q.entry;
-    let m = q.mask;
-    let t = q.tracked;
-    let w = q.ways;
-    choices::load_first(y, t, vals, row);
-    let mut j = 0;
-    while j < w {
+    choices::load_first(y, q.tracked, vals, row);
+    for _ in 0..q.ways {
         refresh(x, row, list, &mut values);
         compare(list, &values, state, flags);
-        if folder::byte_at(flags, e) != 1 {
+        if folder::byte_at(flags, q.entry) != 1 {
             return false;
         }
-        choices::advance(y, m, t, row);
-        j += 1;
+        choices::advance(y, q.mask, q.tracked, row);
     }
     true
 }

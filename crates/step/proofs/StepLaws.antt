@@ -2,28 +2,26 @@
 -- Assumes nothing.
 use Prim.Native.Nat.{ℕ, ◌+◌, ◌<◌, ◌≤◌}
 use mathlib.Core.Path.{◌≡◌, refl, sym, ap, ◌∙◌}
-use mathlib.Core.Bool.{Bool}
+use mathlib.Core.Bool.{true}
 use mathlib.Core.List.{List, [], ◌++◌}
 use native.Mathlib.Omega.{arith}
+use borrow.Author.Tests.{ltb-true}
+use lib.Dec.{ltb}
 use lib.ListN.{length, drop}
 use lib.IntN.{ℤ, pos}
 use lib.Signed.{mag, ◌≤ℤ◌}
-use Rattle.folder.specs.Scan.{first_bad}
 use Rattle.folder.specs.Contents.{body, count_of, field}
 use Rattle.folder.specs.Tab.{tab, fill}
-use Rattle.folder.specs.Table.{outcome}
+use Rattle.folder.specs.Table.{outcome, Outcome}
 use Rattle.folder.specs.declared.Refusal.{Refusal}
-use Rattle.folder.specs.declared.Outcome.{Outcome}
-use Rattle.folder.specs.declared.Outcome.TheVariants.{Accepted, Refused}
 use Rattle.folder.proofs.Decides.{at_most_z, ◌∧also◌}
-use Rattle.folder.proofs.ScanLaws.{all-passed}
 use Rattle.folder.proofs.TableLaws.{accepted-then, refused-then}
 use Rattle.folder.proofs.TabLaws.{get_or-tab}
 use Rattle.folder.proofs.FillLaws.{fill-same}
 use Rattle.whole.proofs.Order.{to-⊑, ⊑_trans, within}
 use Rattle.expressions.specs.Limits.{all_tracked}
 use Rattle.expressions.specs.Entries.{entries_of}
-use Rattle.expressions.specs.Meaning.{State, value_of, truth_in}
+use Rattle.expressions.specs.Meaning.{State, value_of}
 use Rattle.expressions.specs.Reading.{look_in}
 use Rattle.expressions.specs.Right.{IsTruth}
 use Rattle.evaluate.specs.Formed.{Grounded}
@@ -35,19 +33,20 @@ use Rattle.model.specs.Model.{Model, model_of, bound, first_record, model_in}
 use Rattle.model.specs.Chances.{InRange, next}
 use Rattle.model.specs.Table.{model_rows, model_outcome}
 use Rattle.model.specs.Valid.{Valid}
-use Rattle.model.specs.Step.{value_fits, step_rows, step_row_of, step_outcome, step_row}
+use Rattle.model.specs.Step.{step_rows, step_row_of, step_outcome, step_row}
 use Rattle.model.proofs.Chances.{in_bounds, record-there, next-in-range}
 use Rattle.model.proofs.Decided.{accepted-valid}
 use Rattle.model.proofs.Limits.{limits}
 use Rattle.step.specs.Stepping.{fits_in, assigned_in, value_in, Assigning, Stepping}
+use Rattle.std.specs.Prelude.{Err, Ok}
 
 -- ---- the model's outcome, and then the step's
 module _ (m : List ℕ) {o : Outcome} (e : o ≡ model_outcome m) where
-  pub model-valid : o ≡ Accepted → Valid m
+  pub model-valid : o ≡ (Ok tt) → Valid m
   model-valid h = (accepted-valid m).0 (sym e ∙ h)
 
   module _ (s : State) (c b : ℕ) (result : List ℤ) where
-    pub model-accepted : o ≡ Accepted → {r : Outcome} {row : List ℤ}
+    pub model-accepted : o ≡ (Ok tt) → {r : Outcome} {row : List ℤ}
         → r ≡ outcome (step_rows (model_of m) s c b result) → row ≡ step_row_of (model_of m) s c b result r
         → (r ≡ step_outcome m s c b result) × (row ≡ step_row m s c b result)
     unfolding model_outcome step_outcome step_row
@@ -55,27 +54,18 @@ module _ (m : List ℕ) {o : Outcome} (e : o ≡ model_outcome m) where
         let is = p ∙ sym (accepted-then (model_rows m) (step_rows (model_of m) s c b result) (sym e ∙ h)) in
         (is, q ∙ ap (step_row_of (model_of m) s c b result) is)
 
-    pub model-refused : {f : Refusal} → o ≡ Refused f → (Refused f ≡ step_outcome m s c b result) × (result ≡ step_row m s c b result)
+    pub model-refused : {f : Refusal} → o ≡ Err f → (Err f ≡ step_outcome m s c b result) × (result ≡ step_row m s c b result)
     unfolding model_outcome step_outcome step_row
     model-refused {f} h =
         let is = sym (refused-then (model_rows m) (step_rows (model_of m) s c b result) f (sym e ∙ h)) in
         (is, ap (step_row_of (model_of m) s c b result) is)
 
--- Refused, the result row stays.
-pub row_stays : (M : Model) (s : State) (c b : ℕ) (result : List ℤ) {o : Outcome} {f : Refusal} → o ≡ Refused f → result ≡ step_row_of M s c b result o
-row_stays M s c b result e = sym (ap (step_row_of M s c b result) e)
-
 -- ---- rows 29 and 30
-module _ (m : List ℕ) (s : State) {y : List ℕ} (q : y ≡ body m 1) (n : ℕ) {p : ℕ} (e : p ≡ first_bad (fits_in y s) n) where
-  pub values-are : (c b : ℕ) (result : List ℤ) → p ≡ first_bad (value_fits (model_of m) s c b result) n
-  unfolding value_fits
-  values-are c b result = e ∙ ap (λ (z : List ℕ). first_bad (fits_in z s) n) q
-
-  pub in-range : n ≡ variable_count m → length s ≡ n → n ≤ p → InRange (model_of m) s
-  in-range k l h = record { long = l ∙ k; low = λ v g. (both v g).0; high = λ v g. (both v g).1 }
-    where
-      both : (v : ℕ) → v < variable_count m → ((model_of m).low v ≤ℤ value_of s v) × (value_of s v ≤ℤ (model_of m).high v)
-      both v g = (at_most_z ((model_of m).low v) (value_of s v) ∧also at_most_z (value_of s v) ((model_of m).high v)).yes (rw q at (all-passed (fits_in y s) n e h v (omega arith)))
+pub in-range : (m : List ℕ) (s : State) {y : List ℕ} → y ≡ body m 1 → {n : ℕ} → n ≡ variable_count m → length s ≡ n → ((v : ℕ) → v < n → fits_in y s v ≡ true) → InRange (model_of m) s
+in-range m s {y} q {n} k l h = record { long = l ∙ k; low = λ v g. (both v g).0; high = λ v g. (both v g).1 }
+  where
+    both : (v : ℕ) → v < variable_count m → ((model_of m).low v ≤ℤ value_of s v) × (value_of s v ≤ℤ (model_of m).high v)
+    both v g = (at_most_z ((model_of m).low v) (value_of s v) ∧also at_most_z (value_of s v) ((model_of m).high v)).yes (rw q at (h v (omega arith)))
 
 -- ---- rows 31 to 33, from a state in range of a valid model
 module _ {m : List ℕ} (valid : Valid m) {s : State} (h : InRange (model_of m) s) where
@@ -94,17 +84,23 @@ module _ (m : List ℕ) {x k : List ℕ} (p : x ≡ body m 2) (q : k ≡ body m 
   pub guard-right : Valid m → c < count_of 4 (body m 3) → IsTruth (entries_of x) g
   guard-right valid l = rw (e, p, q) (valid.model.commands c l).guard
 
-  pub guard-is : (s : State) {t : Bool} → t ≡ truth_in (entries_of x) s g → t ≡ truth_in (entries_of (body m 2)) s (field 4 (body m 3) c 0)
-  guard-is s u = rw (e, p, q) at u
-
-pub first-is : (m : List ℕ) {k : List ℕ} → k ≡ body m 3 → (c : ℕ) {f : ℕ} → f ≡ first_record (model_in [] [] [] k []) c → f ≡ first_record (model_of m) c
-first-is m q c e = rw q at e
-
 -- Command c has branch b, and f is the command's first record.
 pub record Taken (m : List ℕ) (c b f : ℕ) : Type 0 where
   pub command : c < count_of 4 (body m 3)
   pub branch : b < field 4 (body m 3) c 1
   pub first : f ≡ first_record (model_of m) c
+
+-- As the code has it.
+pub there-in : (m : List ℕ) {k : List ℕ} → k ≡ body m 3 → (c : ℕ) {n : ℕ} → n ≡ count_of 4 k → ltb c n ≡ true → c < count_of 4 (body m 3)
+there-in m q c {n} e h = rw (← q, ← e) (ltb-true c n h)
+
+pub taken-in : (m : List ℕ) {k : List ℕ} → k ≡ body m 3 → (c b : ℕ) {n r f : ℕ} → n ≡ count_of 4 k → ltb c n ≡ true → r ≡ field 4 k c 1 → ltb b r ≡ true
+    → f ≡ first_record (model_in [] [] [] k []) c → Taken m c b f
+taken-in m q c b {n} {r} e h g l p = record {
+  command = there-in m q c e h;
+  branch = rw (← q, ← g) (ltb-true b r l);
+  first = rw q at p;
+}
 
 -- What record r gives variable v.
 abbrev given : List ℕ → State → ℕ → ℕ → ℤ

@@ -7,9 +7,8 @@ ghost use Rattle.std.specs.Int.Signed.{mag};
 ghost use Rattle.folder.specs.Fields.{field_limit};
 ghost use Rattle.folder.specs.Tab.{fill};
 ghost use Rattle.folder.specs.Table.{outcome};
-ghost use Rattle.folder.specs.Scan.{first_bad};
-ghost use Rattle.expressions.specs.Meaning.{value_of};
 ghost use Rattle.model.specs.Limits.{most_variables, most_bound};
+ghost use Rattle.model.specs.Layout.{variable_count};
 ghost use Rattle.model.specs.Model.{model_of};
 ghost use Rattle.model.specs.Chances.{InRange};
 ghost use Rattle.model.specs.Valid.{Valid};
@@ -17,14 +16,7 @@ ghost use Rattle.model.specs.Step.{step_rows, step_row_of, step_outcome, step_ro
 ghost use Rattle.step.specs.Stepping.{fits_in, assigned_in, value_in, Assigning, Stepping};
 
 use expressions::{ALL_TRACKED, MOST_EXPRESSIONS, MOST_VARIABLES};
-use folder::Outcome;
-
-// The value of variable v in a state; past the last, 0.
-fn value_of(state: &[i16], v: usize) -> i64
-    ensures { result ≡ value_of state.now v }
-{
-    if v < state.len() { state[v] as i64 } else { 0 }
-}
+use folder::Refusal;
 
 // The value of variable v is in its range, by the variable body y.
 fn value_fits(y: &[u8], state: &[i16], v: usize) -> bool
@@ -33,24 +25,8 @@ fn value_fits(y: &[u8], state: &[i16], v: usize) -> bool
 {
     let low = folder::signed_field(6, y, v, 0);
     let high = folder::signed_field(6, y, v, 1);
-    let x = value_of(state, v);
+    let x = i64::from(folder::get_or(state, v, 0));
     (low <= x) & (x <= high)
-}
-
-// Row 30: the first of n variables whose value is outside its range, or n.
-fn first_bad_value(y: &[u8], state: &[i16], n: usize) -> usize
-    requires { n ≤ field_limit }
-    ensures { result ≡ first_bad (fits_in y.now state.now) n }
-{
-    let mut i = 0;
-    while i < n {
-        if value_fits(y, state, i) {
-            i += 1;
-        } else {
-            return i;
-        }
-    }
-    i
 }
 
 // The state's values at the front of the row, as the evaluators take them.
@@ -58,12 +34,7 @@ fn load(state: &[i16], row: &mut [i64])
     requires { length state.now ≤ length row.old }
     ensures { row.new ≡ state.now ++ drop (length state.now) row.old }
 {
-    let n = state.len();
-    let mut i = 0;
-    while i < n {
-        row[i] = value_of(state, i);
-        i += 1;
-    }
+    folder::fill(row, state.len(), |v| i64::from(state[v]));
 }
 
 // What record r of the branch body b gives variable v, where the row has what each number is.
@@ -72,7 +43,7 @@ fn assigned_in(values: &[i64], b: &[u8], size: usize, r: usize, v: usize) -> i16
     requires v_bound { mag (value_in values.now b.now size r v) ≤ mag most_bound }
     ensures { result ≡ value_in values.now b.now size r v }
 {
-    evaluate::value_at(values, folder::field(size, b, r, 1 + v)) as i16
+    folder::get_or(values, folder::field(size, b, r, 1 + v), 0) as i16
 }
 
 // The n values that branch record r gives, at the front of the result row.
@@ -81,11 +52,7 @@ fn put_values(values: &[i64], b: &[u8], size: usize, r: usize, n: usize, res: &m
     requires n_in_bounds { n ≤ length res.old }
     ensures { res.new ≡ fill n (value_in values.now b.now size r) res.old }
 {
-    let mut v = 0;
-    while v < n {
-        res[v] = assigned_in(values, b, size, r, v);
-        v += 1;
-    }
+    folder::fill(res, n, |v| assigned_in(values, b, size, r, v));
 }
 
 // The state that branch record r gives, at the front of the result row. All its expressions read s; they may share parts, so that
@@ -102,52 +69,51 @@ fn put_next(x: &[u8], b: &[u8], size: usize, r: usize, s: &[i64], res: &mut [i16
 }
 
 // Rows 31 to 33 and the step, from a state in range.
-fn take_branch(m: &[u8], s: &[i64], command: usize, branch: usize, res: &mut [i16]) -> Outcome
+#[tactic(auto, unfolding(folder::specs::Table::outcome))]
+fn take_branch(
+    m: &[u8],
+    s: &[i64],
+    command: usize,
+    branch: usize,
+    res: &mut [i16],
+) -> Result<(), Refusal>
     requires valid { Valid m.now }
     requires in_range { InRange (model_of m.now) s.now }
     requires s_in_bounds { length s.now ≤ length res.old }
     ensures value { result ≡ outcome (drop 2 (step_rows (model_of m.now) s.now command branch res.old)) }
     ensures res_after { res.new ≡ step_row_of (model_of m.now) s.now command branch res.old result }
 {
-    let k = folder::body(m, 3);
-    let p31 = folder::only_place(command < folder::count_of(4, k));
-    if p31 < 1 {
-        return folder::refuse(31, command);
-    }
     let x = folder::body(m, 2);
+    let k = folder::body(m, 3);
+    folder::check(31, command, command < folder::count_of(4, k))?;
     let enabled = evaluate::truth_in(x, s, folder::field(4, k, command, 0));
-    let branches = folder::field(4, k, command, 1);
-    let p32 = folder::only_place(enabled);
-    if p32 < 1 {
-        return folder::refuse(32, command);
-    }
-    let p33 = folder::only_place(branch < branches);
-    if p33 < 1 {
-        return folder::refuse(33, branch);
-    }
+    folder::check(32, command, enabled)?;
+    folder::check(33, branch, branch < folder::field(4, k, command, 1))?;
     let size = 2 + 2 * s.len();
     let r = model::first_record(k, command) + branch;
     let b = folder::body(m, 4);
     put_next(x, b, size, r, s, res);
-    Outcome::Accepted
+    Ok(())
 }
 
 // Rows 29 and 30, and those after them, of a valid model.
-fn check_step(m: &[u8], state: &[i16], command: usize, branch: usize, res: &mut [i16]) -> Outcome
-    requires { Valid m.now }
+#[tactic(auto, unfolding(folder::specs::Table::outcome, model::specs::Step::value_fits))]
+fn check_step(
+    m: &[u8],
+    state: &[i16],
+    command: usize,
+    branch: usize,
+    res: &mut [i16],
+) -> Result<(), Refusal>
+    requires valid { Valid m.now }
+    requires few { variable_count m.now ≤ most_variables }
     ensures value { result ≡ outcome (step_rows (model_of m.now) state.now command branch res.old) }
     ensures res_after { res.new ≡ step_row_of (model_of m.now) state.now command branch res.old result }
 {
     let n = model::variable_count(m);
-    let p29 = folder::only_place((state.len() == n) & (n <= res.len()));
-    if p29 < 1 {
-        return folder::refuse(29, 0);
-    }
+    folder::check(29, 0, (state.len() == n) & (n <= res.len()))?;
     let y = folder::body(m, 1);
-    let p30 = first_bad_value(y, state, n);
-    if p30 < n {
-        return folder::refuse(30, p30);
-    }
+    folder::check_each(30, n, |v| value_fits(y, state, v))?;
     let mut row = [0i64; MOST_VARIABLES];
     load(state, &mut row);
     take_branch(m, &row[..n], command, branch, res)
@@ -155,13 +121,16 @@ fn check_step(m: &[u8], state: &[i16], command: usize, branch: usize, res: &mut 
 
 // The step by `branch` of `command`, also from a target state. Accepted, the new state stands at the front of the result row, and
 // the rest of the row stays; refused, all of it stays.
-pub fn step(m: &[u8], state: &[i16], command: usize, branch: usize, res: &mut [i16]) -> Outcome
+pub fn step(
+    m: &[u8],
+    state: &[i16],
+    command: usize,
+    branch: usize,
+    res: &mut [i16],
+) -> Result<(), Refusal>
     ensures value { result ≡ step_outcome m.now state.now command branch res.old }
     ensures res_after { res.new ≡ step_row m.now state.now command branch res.old }
 {
-    let o = model_rules::check_model(m);
-    match o {
-        Outcome::Accepted => check_step(m, state, command, branch, res),
-        Outcome::Refused(f) => Outcome::Refused(f),
-    }
+    model_rules::check_model(m)?;
+    check_step(m, state, command, branch, res)
 }

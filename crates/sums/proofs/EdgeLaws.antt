@@ -1,12 +1,17 @@
 -- Laws of an edge's weighted sum, of the walk over a node's edges, and of rounding up.
 -- Assumes nothing.
-use Prim.Native.Nat.{ℕ, ◌+◌, ◌-◌, ◌*◌, ◌/◌, ◌≤◌, ◌<◌, max}
-use native.Mathlib.Nat.{div-lt_iff_lt-mul}
+use Prim.Native.Nat.{ℕ, zero, suc, ◌+◌, ◌-◌, ◌*◌, ◌/◌, ◌%◌, ◌≤◌, ◌<◌, max, min}
+use native.Mathlib.Nat.{div-lt_iff_lt-mul, mod-add-div, mod-lt, add-mul-div_left, div-eq_of_lt}
 use native.Mathlib.Omega.{arith}
-use mathlib.Core.Path.{◌≡◌, refl, ◌∙◌}
+use mathlib.Core.Path.{◌≡◌, refl, sym, ap, ◌∙◌}
 use mathlib.Core.List.{List}
 use native.Mathlib.Numerals.{add-one}
 use lib.ListN.{get_or}
+use native.Mathlib.Decide.{dec_lt, ℕ_discrete}
+use borrow.Author.Tests.{lt-ltb, le-ltb, eq-eqb, ne_eqb}
+use Rattle.std.specs.Int.{div_ceil}
+use Rattle.std.specs.Ordering.{ord_max, nat_cmp}
+use Rattle.mdp.specs.Sums.{rounded_up}
 use Rattle.mdp.proofs.SumLaws.{greatest-next}
 use Rattle.mdp.proofs.SumLoop.{Summed, sum-start, sum-next, sum_over}
 use Rattle.folder.specs.Fields.{u16}
@@ -51,3 +56,23 @@ module _ {cs eb weights firsts : List ℕ} {nodes at count : ℕ} (R : EdgesRead
 -- An average of at most s rounds up to at most s.
 pub up_small : (d x s : ℕ) → 0 < d → x ≤ d * s → (x + (d - 1)) / d < s + 1
 up_small d x s p h = (div-lt_iff_lt-mul {k = d} {x = x + (d - 1)} {y = s + 1} p).1 (omega arith)
+
+-- The library's quotient, rounded up.
+left_up : (d r : ℕ) → 0 < d → r < d → (r + (d - 1)) / d ≡ min 1 r
+left_up d zero p l = div-eq_of_lt (omega arith)
+left_up d (suc r) p l =
+    ap (λ (x : ℕ). x / d) (omega arith) ∙ add-mul-div_left r 1 {y = d} p ∙ ap (λ (x : ℕ). x + 1) (div-eq_of_lt (omega arith)) ∙ omega arith
+
+pub ceil-is : (x d : ℕ) → 0 < d → div_ceil x d ≡ rounded_up x d
+ceil-is x d p =
+    let e : (x % d + (d - 1)) + d * (x / d) ≡ x + (d - 1) = omega (arith, mod-add-div x d) in
+    sym (ap (λ (z : ℕ). z / d) (sym e) ∙ add-mul-div_left (x % d + (d - 1)) (x / d) {y = d} p ∙ ap (λ (z : ℕ). z + x / d) (left_up d (x % d) p (mod-lt x p)) ∙ omega arith)
+
+-- And its larger of two.
+pub larger-is : (a b : ℕ) → ord_max nat_cmp a b ≡ max a b
+larger-is a b = go (dec_lt b a) (ℕ_discrete b a)
+  where
+    go : Dec (b < a) → Dec (b ≡ a) → ord_max nat_cmp a b ≡ max a b
+    go (yes l) e = rw (lt-ltb b a l) (omega arith)
+    go (no h) (yes e) = rw (le-ltb b a (omega arith), eq-eqb b a e) (omega arith)
+    go (no h) (no d) = rw (le-ltb b a (omega arith), ne_eqb b a d) (omega arith)

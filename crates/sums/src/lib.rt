@@ -2,10 +2,10 @@
 
 #![tactic(auto)]
 
-ghost use Rattle.std.specs.Prelude.{◌≡◌, ◌+◌, ◌*◌, ◌<◌, ◌≤◌, ◌^◌, max, length};
-ghost use Rattle.mdp.specs.Sums.{rounded_up};
+ghost use Rattle.std.specs.Prelude.{◌≡◌, ◌+◌, ◌*◌, ◌<◌, ◌≤◌, ◌^◌, eqb, length};
 ghost use Rattle.folder.specs.Fields.{field_limit};
 ghost use Rattle.folder.specs.Contents.{field, count_of};
+ghost use Rattle.folder.specs.Pick.{pick};
 ghost use Rattle.folder.specs.Tab.{fill};
 ghost use Rattle.model.specs.Limits.{most_records, most_commands};
 ghost use Rattle.model.specs.Model.{model_of};
@@ -16,14 +16,29 @@ ghost use Rattle.sums.specs.Tables.{Tables, weight_in, first_in, Light, figure_b
 
 use graph::{COVERED, EXPANDED};
 
-// Certainty.
-const UNITS: u32 = graph::UNITS as u32;
+// Certainty, as rows have it.
+pub const UNITS: u32 = graph::UNITS as u32;
 
+// D.
+pub fn total_of(m: &[u8]) -> usize
+    ensures { (result ≡ (model_of m.now).total) × (result < field_limit) }
+{
+    folder::field(4, folder::body(m, 0), 0, 0)
+}
+
+// Whose figure or value a node takes, unless it is expanded: its cover's, if it has one.
+pub fn source_of(kind: usize, cover: usize, n: usize) -> usize
+    ensures { result ≡ pick (eqb kind 2) cover n }
+{
+    if kind == COVERED { cover } else { n }
+}
+
+// A weight times an element of a row.
 fn times(weight: usize, x: u32) -> usize
     requires { weight < field_limit }
     ensures { (result ≡ weight * x) × (result ≤ most_product) }
 {
-    weight * (x as usize)
+    weight * x as usize
 }
 
 // The sum over the branches of the edge at `at`: of each weight × the row's element at the branch's successor.
@@ -39,19 +54,11 @@ pub fn edge_sum(
     ensures { (result ≡ sum_at weights.now row.now eb.now first count at) × (result < 2 ^ 52) }
 {
     let mut acc = 0;
-    let mut b = 0;
-    while b < count {
+    for b in 0..count {
         let to = folder::u16_in(eb, at + 2 + 2 * b);
         acc += times(weights[first + b], row[to]);
-        b += 1;
     }
     acc
-}
-
-fn larger(a: usize, b: usize) -> usize
-    ensures { result ≡ max a b }
-{
-    if a < b { b } else { a }
 }
 
 // The branches of command c, which the body of commands has whole.
@@ -84,28 +91,17 @@ pub fn best_of(
 {
     let mut best = 0;
     let mut k = at;
-    let mut e = 0;
-    while e < count {
+    for _ in 0..count {
         let c = folder::u16_in(eb, k);
         let branches = branches_of(cs, c);
         let sum = edge_sum(weights, row, eb, firsts[c], branches, k);
-        best = larger(best, sum);
+        best = best.max(sum);
         k += 2 + 2 * branches;
-        e += 1;
     }
     Best {
         greatest: best,
         next: k,
     }
-}
-
-// Divided once, and rounded up.
-fn up(x: usize, d: usize) -> usize
-    requires { (0 < d) × (x + d < 2 ^ 64) }
-    ensures { result ≡ rounded_up x d }
-{
-    let over = d - 1;
-    (x + over) / d
 }
 
 // The figure of a node that is not covered, from the greatest sum over its edges; a covered one is 0 for now.
@@ -114,7 +110,7 @@ pub fn figure_by(kind: usize, best: usize, d: usize) -> u32
     ensures { result ≡ figure_by kind best d }
 {
     if kind == EXPANDED {
-        return up(best, d) as u32;
+        return best.div_ceil(d) as u32;
     }
     if kind == COVERED {
         return 0;
@@ -128,12 +124,11 @@ fn fill_weights(size: usize, bs: &[u8], weights: &mut [usize])
     ensures weights_after { weights.new ≡ fill (count_of size bs.now) (weight_in size bs.now) weights.old }
     ensures light { Light (count_of size bs.now) (weight_in size bs.now) }
 {
-    let records = folder::count_of(size, bs);
-    let mut r = 0;
-    while r < records {
-        weights[r] = folder::field(size, bs, r, 0);
-        r += 1;
-    }
+    folder::fill(
+        weights,
+        folder::count_of(size, bs),
+        |r| folder::field(size, bs, r, 0),
+    );
 }
 
 // The table of each command's first branch record.
@@ -143,11 +138,9 @@ fn fill_firsts(cs: &[u8], firsts: &mut [usize])
 {
     let commands = folder::count_of(4, cs);
     let mut next = 0;
-    let mut c = 0;
-    while c < commands {
+    for c in 0..commands {
         firsts[c] = next;
         next += folder::field(4, cs, c, 1);
-        c += 1;
     }
 }
 

@@ -4,35 +4,14 @@ use Prim.Native.Nat.{ℕ, zero, suc, ◌+◌, ◌-◌, ◌/◌, ◌%◌, ◌≤�
 use mathlib.Core.Path.{◌≡◌, refl, sym, ap, ◌∙◌}
 use mathlib.Core.List.{List, [], ◌∷◌, ◌++◌, append_assoc}
 use native.Mathlib.Nat.{add-zero}
-use native.Mathlib.Numerals.{add-one, sub-one}
+use native.Mathlib.Numerals.{sub-one}
 use native.Mathlib.Omega.{arith}
 use borrow.Author.Tests.{lt-ltb, le-ltb}
 use lib.Dec.{ltb}
 use lib.ListN.{length, take, drop, set, get_or, length-append, length-take, length-drop}
-use lib.Seq.{paste, paste-zero, paste-suc, length-paste, take-length, set_at, drop-cons, append_snoc, length-take-le, take_at, drop_at, drop-drop}
+use lib.Seq.{paste-zero, set_at, drop-cons, append_snoc, length-take-le, take_at, drop_at, drop-drop}
 use Rattle.folder.proofs.PickLaws.{pick_all}
 use Rattle.text.specs.Text.{decimal_within, written, Holds}
-
--- ---- a word copied byte by byte: i of its bytes stand
-pub record Copied (out₀ : List ℕ) (at : ℕ) (word out : List ℕ) (i : ℕ) : Type 0 where
-  pub within : i ≤ length word
-  pub same : out ≡ paste out₀ at word i
-  pub long : length out ≡ length out₀
-
-pub copy_start : (out : List ℕ) (at : ℕ) (word : List ℕ) → Copied out at word out 0
-copy_start out at word = record { within = omega arith; same = paste-zero out at word; long = refl }
-
-module _ {out₀ : List ℕ} {at : ℕ} {word out : List ℕ} {i : ℕ} (h : Copied out₀ at word out i) (room : at + length word ≤ length out₀) where
-  pub copy-next : i < length word → Copied out₀ at word (set out (at + i) (get_or word i 0)) (i + 1)
-  copy-next l =
-      let e : set out (at + i) (get_or word i 0) ≡ paste out₀ at word (i + 1) =
-      ap (λ (t : List ℕ). set t (at + i) (get_or word i 0)) h.same ∙ paste-suc out₀ at word i 0 (omega arith) l ∙ ap (paste out₀ at word) (sym (add-one i)) in
-      record { within = omega arith; same = e; long = ap length e ∙ length-paste out₀ at word (i + 1) (omega arith) (omega arith) }
-
-  pub copy-over : length word ≤ i → out ≡ written out₀ at word
-  copy-over l =
-      let q : i ≡ length word = omega (arith, h.within) in
-      h.same ∙ ap (paste out₀ at word) q ∙ ap (λ (t : List ℕ). take at out₀ ++ t ++ drop (at + length word) out₀) (take-length word)
 
 -- ---- digits
 module _ (n : ℕ) where

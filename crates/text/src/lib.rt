@@ -10,15 +10,12 @@ pub fn put(out: &mut [u8], at: usize, word: &[u8]) -> usize
     requires { at + length word.now ≤ length out.old }
     ensures { (result ≡ at + length word.now) × (out.new ≡ written out.old at word.now) }
 {
-    let mut i = 0;
-    while i < word.len() {
-        out[at + i] = word[i];
-        i += 1;
-    }
-    at + i
+    let end = at + word.len();
+    out[at..end].copy_from_slice(word);
+    end
 }
 
-// At most `left` digits of n.
+// At most `left` digits of n. No `write!`: its clauses tell what is written where it succeeds, and not that it does.
 fn put_digits(out: &mut [u8], at: usize, n: usize, left: usize) -> usize
     requires { at + left ≤ length out.old }
     ensures { (result ≡ at + length (decimal_within left n)) × (out.new ≡ written out.old at (decimal_within left n)) }
@@ -27,11 +24,11 @@ fn put_digits(out: &mut [u8], at: usize, n: usize, left: usize) -> usize
         return at;
     }
     if n < 10 {
-        out[at] = (48 + n) as u8;
+        out[at] = b'0' + n as u8;
         return at + 1;
     }
     let k = put_digits(out, at, n / 10, left - 1);
-    out[k] = (48 + n % 10) as u8;
+    out[k] = b'0' + (n % 10) as u8;
     k + 1
 }
 

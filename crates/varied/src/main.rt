@@ -3,12 +3,12 @@
 #![tactic(auto)]
 
 use std::io;
-use tally::TALLY;
+use tally::Run;
 
 mod changed;
 
 fn main(rt: HostRuntime) -> io::Result<()> {
-    let mut t = [0; TALLY];
-    changed::all(&rt, &mut t)?;
-    tally::say_table(&rt, &t)
+    let mut run = Run::new(&rt);
+    changed::all(&mut run)?;
+    run.say_table()
 }

@@ -1,48 +1,18 @@
 -- What the code reads of a folder by starts that may be anything: a part that lies within the folder.
 -- Assumes nothing.
 use Prim.Native.Nat.{ℕ, ◌+◌, ◌-◌, ◌*◌, ◌/◌, ◌<◌, ◌≤◌}
-use mathlib.Core.Path.{◌≡◌, sym, ◌∙◌}
+use mathlib.Core.Path.{◌≡◌}
 use mathlib.Core.Bool.{true, false}
-use mathlib.Core.List.{List, [], ◌∷◌, head-eq_of_cons-eq}
+use mathlib.Core.List.{List, []}
 use native.Mathlib.Nat.{add-sub_cancel_left, div-le_self}
 use native.Mathlib.Omega.{arith}
 use borrow.Author.Tests.{ltb-true, leb-true}
 use lib.Dec.{ltb, leb}
-use lib.ListN.{length, get_or, take, drop, get_or-eq_default}
-use lib.Seq.{drop-cons}
-use Rattle.folder.specs.Contents.{start_of}
-use Rattle.folder.specs.Tab.{tab}
-use Rattle.folder.specs.Table.{outcome}
+use lib.ListN.{length, take, drop}
 use Rattle.folder.proofs.Decides.{and_both}
 use Rattle.model.specs.Layout.{bodies}
-use Rattle.model.specs.Table.{folder_rows}
-use Rattle.model.specs.View.{is_accepted}
 use Rattle.folder.proofs.ContentsLaws.{record-within}
-use Rattle.view.specs.Starts.{starts_of, start_in, bytes_in, size_in, is_in, place_in, length_in, part_in}
-
--- The starts that the code reads from the contents.
-pub starts-read : (m : List ℕ) {a b c d f : ℕ} → is_accepted (outcome (folder_rows m)) ≡ true
-    → a ≡ start_of m 0 → b ≡ start_of m 1 → c ≡ start_of m 2 → d ≡ start_of m 3 → f ≡ start_of m 4
-    → a ∷ b ∷ c ∷ d ∷ f ∷ [] ≡ starts_of m
-unfolding starts_of tab
-starts-read m h p q r s t = rw (h, p, q, r, s, t)
-
-pub starts_none : (m : List ℕ) {n : ℕ} → is_accepted (outcome (folder_rows m)) ≡ false → n ≡ length m
-    → n ∷ n ∷ n ∷ n ∷ n ∷ [] ≡ starts_of m
-unfolding starts_of tab
-starts_none m h e = rw (h, e)
-
--- The code reads a start that is there, and the folder's end past the last one.
-module _ (n : ℕ) (starts : List ℕ) (k : length starts ≡ bodies) (e : ℕ) where
-  pub start-there : e < bodies → get_or starts e 0 ≡ start_in n starts e
-  unfolding start_in
-  start-there l =
-      let h : e < length starts = rw k l in
-      head-eq_of_cons-eq (sym (drop-cons starts e 0 h) ∙ drop-cons starts e n h)
-
-  pub start-past : bodies ≤ e → n ≡ start_in n starts e
-  unfolding start_in
-  start-past l = sym (get_or-eq_default starts n (rw k l))
+use Rattle.view.specs.Starts.{start_in, bytes_in, size_in, is_in, place_in, length_in, part_in}
 
 module _ (n : ℕ) (starts : List ℕ) (e i : ℕ) (h : is_in n starts e i ≡ true) where
   parts : (ltb e bodies ≡ true) ×

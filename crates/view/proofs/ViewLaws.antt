@@ -20,15 +20,16 @@ use Rattle.folder.proofs.TableLaws.{accepted-asks}
 use Rattle.model.specs.Layout.{bodies, record_size, record_count}
 use Rattle.model.specs.Table.{folder_rows}
 use Rattle.model.specs.Valid.{FolderRight}
-use Rattle.model.specs.View.{is_accepted, record_there, view_start, view_length, view_part}
+use Rattle.model.specs.View.{record_there, view_start, view_length, view_part}
 use Rattle.model.proofs.Decided.{folder-asks}
 use Rattle.model.proofs.ViewLaws.{accepted-is, no_body, moved}
+use Rattle.std.specs.Prelude.{is_ok}
 use Rattle.view.specs.Starts.{starts_of, start_in, bytes_in, size_in, is_in, place_in, length_in, part_in}
 use Rattle.view.specs.Held.{Views, Looked}
 use Rattle.view.specs.declared.View.{View}
 
 -- ---- a folder that breaks none of causes 1 to 3
-module _ (m : List ℕ) (h : is_accepted (outcome (folder_rows m)) ≡ true) where
+module _ (m : List ℕ) (h : is_ok (outcome (folder_rows m)) ≡ true) where
   right : FolderRight m
   right = (accepted-asks (folder-asks m)).0 (accepted-is _ h)
 
@@ -84,7 +85,7 @@ none_in true false = refl
 none_in false b = refl
 
 -- ---- one that breaks one of them: every body starts and ends with the folder
-module _ (m : List ℕ) (h : is_accepted (outcome (folder_rows m)) ≡ false) where
+module _ (m : List ℕ) (h : is_ok (outcome (folder_rows m)) ≡ false) where
   start-last : (e : ℕ) → Dec (e < bodies) → start_in (length m) (starts_of m) e ≡ length m
   unfolding start_in starts_of
   start-last e (yes l) = rw h (get_or-tab (length m) bodies (λ _. length m) e l)
@@ -121,19 +122,19 @@ module _ (m : List ℕ) (e i : ℕ) where
   unfolding place_in length_in view_start view_length
   none-same p q = (rw (p, q), rw (p, q))
 
-  there-same : is_accepted (outcome (folder_rows m)) ≡ true → e < bodies → Same
+  there-same : is_ok (outcome (folder_rows m)) ≡ true → e < bodies → Same
   unfolding place_in length_in view_start view_length
   there-same h l =
       (rw (accepted-in m h e i l, start_is m h e l, size_is m h e), rw (accepted-in m h e i l, size_is m h e))
 
-  same_by : (b : Bool) → is_accepted (outcome (folder_rows m)) ≡ b → Dec (e < bodies) → Same
+  same_by : (b : Bool) → is_ok (outcome (folder_rows m)) ≡ b → Dec (e < bodies) → Same
   same_by true h (yes l) = there-same h l
   same_by true h (no g) =
       none-same (outside (length m) (starts_of m) e i (omega arith)) (sym (no_body m e i (omega arith)))
   same_by false h d = none-same (refused-in m h e i) (refused-there m h e i)
 
   same : Same
-  same = same_by (is_accepted (outcome (folder_rows m))) refl (dec_lt e bodies)
+  same = same_by (is_ok (outcome (folder_rows m))) refl (dec_lt e bodies)
 
   part_same : part_in m (starts_of m) e i ≡ view_part m e i
   unfolding part_in view_part

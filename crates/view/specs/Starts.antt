@@ -1,18 +1,17 @@
 -- Document 01, "Folders": the view of a model folder by where its bodies start.
 -- Assumes nothing.
-use Rattle.std.specs.Prelude.{ℕ, ◌+◌, ◌-◌, ◌*◌, ◌/◌, Bool, ◌&&◌, List, ltb, leb, length, get_or, take, drop}
+use Rattle.std.specs.Prelude.{ℕ, ◌+◌, ◌-◌, ◌*◌, ◌/◌, Bool, ◌&&◌, List, ltb, leb, length, get_or, take, drop, is_ok}
 use Rattle.folder.specs.Pick.{pick}
 use Rattle.folder.specs.Contents.{start_of}
 use Rattle.folder.specs.Tab.{tab}
 use Rattle.folder.specs.Table.{outcome}
 use Rattle.model.specs.Layout.{bodies, select, branch_size}
 use Rattle.model.specs.Table.{folder_rows}
-use Rattle.model.specs.View.{is_accepted}
 
 -- Where the bodies start, from the contents. Where one of causes 1 to 3 holds, each starts at the folder's end: so none
 -- has a record.
 unfoldable pub starts_of : List ℕ → List ℕ
-starts_of m = pick (is_accepted (outcome (folder_rows m))) (tab bodies (start_of m)) (tab bodies (λ _. length m))
+starts_of m = pick (is_ok (outcome (folder_rows m))) (tab bodies (start_of m)) (tab bodies (λ _. length m))
 
 -- A folder of n bytes, and starts of its bodies, whatever they are.
 module _ (n : ℕ) (starts : List ℕ) where

@@ -3,7 +3,7 @@
 
 #![tactic(auto)]
 
-ghost use Rattle.std.specs.Prelude.{◌≡◌, ◌+◌, ◌<◌};
+ghost use Rattle.std.specs.Prelude.{◌≡◌, ◌+◌, ◌<◌, length};
 ghost use Rattle.model.specs.View.{view_start, view_part};
 ghost use Rattle.view.specs.Starts.{starts_of, start_in, bytes_in, size_in, is_in};
 ghost use Rattle.view.specs.Held.{Looked, Views};
@@ -15,71 +15,50 @@ pub struct View<'a> {
     starts: [usize; 5],
 }
 
+impl View<'_> {
+    // Where body e starts: past the last one, the folder's end.
+    #[tactic(auto, unfolding(crate::specs::Starts::start_in))]
+    fn start(&self, e: usize) -> usize
+        ensures { result ≡ start_in (length self.now.model.now) self.now.starts e }
+    {
+        folder::get_or(&self.starts, e, self.model.len())
+    }
+
+    // How many bytes body e has: none where it would end before it starts.
+    #[tactic(auto, unfolding(crate::specs::Starts::bytes_in))]
+    fn bytes(&self, e: usize) -> usize
+        requires { e < 5 }
+        ensures { result ≡ bytes_in (length self.now.model.now) self.now.starts e }
+    {
+        self.start(e + 1).saturating_sub(self.start(e))
+    }
+
+    // How many bytes a record of body e has.
+    #[tactic(auto, unfolding(crate::specs::Starts::size_in))]
+    fn size(&self, e: usize) -> usize
+        ensures { (result ≡ size_in (length self.now.model.now) self.now.starts e) × (0 < result) }
+    {
+        model::select(e, 4, 6, 8, 4, 2 + 2 * (self.bytes(1) / 6))
+    }
+
+    // There is such a body, it ends within the folder, and it has such a record.
+    #[tactic(auto, unfolding(crate::specs::Starts::is_in))]
+    fn has(&self, e: usize, i: usize) -> bool
+        ensures { result ≡ is_in (length self.now.model.now) self.now.starts e i }
+    {
+        e < 5 && self.start(e + 1) <= self.model.len() && i < self.bytes(e) / self.size(e)
+    }
+}
+
 // Where the bodies start, once causes 1 to 3 are ruled out. Else at the folder's end: no body has a record.
+#[tactic(auto, unfolding(crate::specs::Starts::starts_of, folder::specs::Tab::tab))]
 fn starts_of(m: &[u8]) -> [usize; 5]
     ensures { result ≡ starts_of m.now }
 {
-    if model::is_accepted(model::check_folder(m)) {
-        let terms = folder::start_of(m, 0);
-        let variables = folder::start_of(m, 1);
-        let expressions = folder::start_of(m, 2);
-        let commands = folder::start_of(m, 3);
-        let branches = folder::start_of(m, 4);
-        [terms, variables, expressions, commands, branches]
+    if model::check_folder(m).is_ok() {
+        std::array::from_fn(|e| folder::start_of(m, e))
     } else {
-        let n = m.len();
-        [n, n, n, n, n]
-    }
-}
-
-// Where body e of a folder of n bytes starts: past the last one, the folder's end.
-fn start_in(n: usize, starts: [usize; 5], e: usize) -> usize
-    ensures { result ≡ start_in n starts e }
-{
-    if e < 5 { starts[e] } else { n }
-}
-
-// How many bytes body e has: none where it would end before it starts.
-fn bytes_in(n: usize, starts: [usize; 5], e: usize) -> usize
-    requires { e < 5 }
-    ensures { result ≡ bytes_in n starts e }
-{
-    let start = start_in(n, starts, e);
-    let end = start_in(n, starts, e + 1);
-    if start < end { end - start } else { 0 }
-}
-
-// How many bytes a record of body e has.
-fn size_in(n: usize, starts: [usize; 5], e: usize) -> usize
-    ensures { (result ≡ size_in n starts e) × (0 < result) }
-{
-    model::select(e, 4, 6, 8, 4, 2 + 2 * (bytes_in(n, starts, 1) / 6))
-}
-
-// There is such a body, it ends within the folder, and it has such a record.
-fn is_in(n: usize, starts: [usize; 5], e: usize, i: usize) -> bool
-    ensures { result ≡ is_in n starts e i }
-{
-    if e < 5 {
-        let end = start_in(n, starts, e + 1);
-        let count = bytes_in(n, starts, e) / size_in(n, starts, e);
-        (end <= n) & (i < count)
-    } else {
-        false
-    }
-}
-
-// Record i of body e of the folder m by these starts. Where there is none, the empty part at its start.
-fn part_in(m: &[u8], starts: [usize; 5], e: usize, i: usize) -> &[u8]
-    ensures { Looked m.entry starts e i result }
-{
-    let n = m.len();
-    if is_in(n, starts, e, i) {
-        let size = size_in(n, starts, e);
-        let at = start_in(n, starts, e) + size * i;
-        &m[at..at + size]
-    } else {
-        &m[..0]
+        [m.len(); 5]
     }
 }
 
@@ -93,11 +72,17 @@ pub fn view_of<'a>(m: &'a [u8]) -> View<'a>
     }
 }
 
-// Record i of body e, by what the struct holds.
+// Record i of body e, by what the struct holds. Where there is none, the empty part at the folder's start.
 pub fn record_in<'a>(v: View<'a>, e: usize, i: usize) -> &'a [u8]
     ensures { Looked v.entry.model v.entry.starts e i result }
 {
-    part_in(v.model, v.starts, e, i)
+    if v.has(e, i) {
+        let size = v.size(e);
+        let at = v.start(e) + size * i;
+        &v.model[at..at + size]
+    } else {
+        &v.model[..0]
+    }
 }
 
 // The same from the folder alone, as model::record_part: whoever calls this holds no struct.

@@ -21,8 +21,7 @@ use Rattle.expressions.specs.Combinations.{Label, Holds, Proper}
 use Rattle.expressions.specs.Limits.{farthest_bound}
 use Rattle.expressions.specs.Mentions.{missing}
 use Rattle.expressions.specs.States.{lacked_by}
-use Rattle.expressions.specs.declared.Number.{Number}
-use Rattle.expressions.specs.declared.Number.TheVariants.{Known, Unknown as Open}
+use Rattle.expressions.specs.ThreeWay.{Number}
 use Rattle.expressions.proofs.Interval.{In, bound-here}
 use Rattle.evaluate.specs.Formed.{Formed, Ready, Grounded}
 use Rattle.evaluate.specs.Settled.{flag_of, content_of, entry_reading, Settled}
@@ -40,6 +39,7 @@ use Rattle.graph.specs.Simulation.{node_size}
 use Rattle.building.proofs.ReadLaws.{proper-by, holds-own}
 use Rattle.held.specs.Held.{state_field, node_in, state_in, set_in, label_in, NodeHere}
 use Rattle.wants.specs.Wants.{MasksOf, LabelFlagged, NodeRead}
+use Rattle.std.specs.Prelude.{None, Some}
 
 -- Field f of node n, as the code reads it.
 pub field-read : (m nb : List ℕ) (n f : ℕ) {vars size x : ℕ} → vars ≡ variable_count m → size ≡ node_size vars → x ≡ field size nb n f → x ≡ node_in m nb n f
@@ -137,20 +137,20 @@ module _ {m nb : List ℕ} {n : ℕ} (here : NodeHere m nb n) where
       unknown = λ e l d. open-so (three e) (λ u. d (s.flags e l ∙ u));
     }
       where
-        open-so : (a : Number) → (flag_of a ≡ 1 → ⊥) → a ≡ Open
-        open-so (Known z) d = absurd (d refl)
-        open-so Open d = refl
+        open-so : (a : Number) → (flag_of a ≡ 1 → ⊥) → a ≡ None
+        open-so (Some z) d = absurd (d refl)
+        open-so None d = refl
 
         known_so : (e : ℕ) → e < M.entries.count → (a : Number) → three e ≡ a → flag_of a ≡ 1 → reads_known M.entries L e ≡ true
-        known_so e l (Known z) q k = stays-known M.entries L e M.variables (formed.right e l) label-proper z q
-        known_so e l Open q k = absurd (omega arith)
+        known_so e l (Some z) q k = stays-known M.entries L e M.variables (formed.right e l) label-proper z q
+        known_so e l None q k = absurd (omega arith)
 
     pub label-stated : HasFlagged M.entries S values known
     label-stated = record { is = λ e l u. go e l (three e) refl (sym (s.flags e l) ∙ u) }
       where
         go : (e : ℕ) → e < M.entries.count → (a : Number) → three e ≡ a → flag_of a ≡ 1 → get_or values e (pos 0) ≡ entry_in M.entries S e
-        go e l (Known z) q k = s.contents e l ∙ ap content_of q ∙ sym (three-is M.entries L e M.variables (formed.right e l) label-proper S own-holds z q)
-        go e l Open q k = absurd (omega arith)
+        go e l (Some z) q k = s.contents e l ∙ ap content_of q ∙ sym (three-is M.entries L e M.variables (formed.right e l) label-proper S own-holds z q)
+        go e l None q k = absurd (omega arith)
 
 -- After entries were asked.
 pub read_again : {m nb : List ℕ} {n : ℕ} {masks known₀ known : List ℕ} {state : List ℤ} → NodeRead m nb n masks known₀ state → LabelFlagged m nb n known → length known ≡ length known₀ → NodeRead m nb n masks known state

@@ -1,7 +1,6 @@
 -- Document 02, 2.5: what looking for a repair stands on, and what it leaves.
 -- Assumes nothing.
-use Rattle.std.specs.Prelude.{ℕ, ◌*◌, ◌<◌, ◌≤◌, ◌≡◌, List, length, get_or}
-use Rattle.std.proofs.Math.Option.{Option, none, some}
+use Rattle.std.specs.Prelude.{ℕ, ◌*◌, ◌<◌, ◌≤◌, ◌≡◌, List, length, get_or, Option, None, Some}
 use Rattle.model.specs.Layout.{variable_count}
 use Rattle.model.specs.Model.{model_of}
 use Rattle.model.specs.Valid.{Valid}
@@ -48,10 +47,10 @@ pub record Reread (m : List ℕ) (nodes : ℕ) (old new : List ℕ) : Type 0 whe
 
 -- The node that a move concerns; `n` if there is none.
 abbrev pub node_of : ℕ → Option Move → ℕ
-node_of n none = n
-node_of n (some (track k v)) = k
-node_of n (some (adopt k)) = k
-node_of n (some (drop k)) = k
-node_of n (some (cover_by k c)) = k
-node_of n (some (reach k)) = k
-node_of n (some (expand k)) = k
+node_of n None = n
+node_of n (Some (track k v)) = k
+node_of n (Some (adopt k)) = k
+node_of n (Some (drop k)) = k
+node_of n (Some (cover_by k c)) = k
+node_of n (Some (reach k)) = k
+node_of n (Some (expand k)) = k

@@ -1,11 +1,8 @@
 -- Document 02, 2.5: what the label of a node wants, by the records that hold the graph while it is built; and what reading it
 -- stands on.
 -- Assumes nothing.
-use Rattle.std.specs.Prelude.{ℕ, ◌+◌, ◌<◌, ◌≤◌, ◌≡◌, true, List, eqb, length, ℤ}
-use Rattle.std.proofs.Math.Option.{Option, none, some}
-use Rattle.folder.specs.Pick.{pick}
-use Rattle.folder.specs.Contents.{field}
-use Rattle.expressions.specs.Limits.{no_variable, most_expressions}
+use Rattle.std.specs.Prelude.{ℕ, ◌+◌, ◌<◌, ◌≤◌, ◌≡◌, true, List, length, ℤ, Option, None}
+use Rattle.expressions.specs.Limits.{most_expressions}
 use Rattle.expressions.specs.Reading.{has_bit}
 use Rattle.expressions.specs.States.{number_told, truth_told}
 use Rattle.mentions.specs.Masked.{Masked}
@@ -15,20 +12,11 @@ use Rattle.model.specs.Model.{model_of, first_record}
 use Rattle.building.specs.First.{◌orelse◌, given, first}
 use Rattle.building.specs.Building.{enabled, before, births}
 use Rattle.building.specs.Moves.{wanted_t, wanted_n}
-use Rattle.graph.specs.Simulation.{node_size}
-use Rattle.held.specs.Held.{child_field, read_field, tracked_field, node_in, state_in, set_in, label_in, NodeHere}
-
--- A variable that is wanted, or none.
-unfoldable pub found : ℕ → Option ℕ
-found v = pick (eqb v no_variable) none (some v)
+use Rattle.held.specs.Held.{child_field, read_field, node_in, state_in, set_in, label_in, NodeHere}
 
 -- The row has what each entry mentions.
 abbrev pub MasksOf : List ℕ → List ℕ → Type 0
 MasksOf m masks = Masked (model_of m).entries (model_of m).entries.count masks
-
--- All that node x tracks is marked as read by its parent.
-abbrev pub IsRead : ℕ → List ℕ → ℕ → Type 0
-IsRead vars nb x = field (node_size vars) nb x tracked_field ≡ field (node_size vars) nb x read_field
 
 module _ (m nb : List ℕ) (n : ℕ) where
   -- What entry e wants in the label of node n, as a truth and as a number.
@@ -65,7 +53,7 @@ module _ (m nb : List ℕ) (n : ℕ) where
 
   -- What the child x, by branch record r, has marked as read by its parent n does read known.
   pub record ReadBy (x r : ℕ) : Type 0 where
-    pub is : (v : ℕ) → v < (model_of m).variables → has_bit (node_in m nb x read_field) v ≡ true → number_wants_in ((model_of m).assigned r v) ≡ none
+    pub is : (v : ℕ) → v < (model_of m).variables → has_bit (node_in m nb x read_field) v ≡ true → number_wants_in ((model_of m).assigned r v) ≡ None
 
   -- So of every child.
   pub record AllRead : Type 0 where

@@ -1,10 +1,10 @@
-// What the label of a node wants while a graph is built: which variable it must track for its guards, its target and its
-// children's labels to read known; NO_VARIABLE where it wants none. Entries are settled once for a visit, and read by all states where they must be.
+// What the label of a node wants while a graph is built: which variable it must track, if any, for its guards, its target and
+// its children's labels to read known. Entries are settled once for a visit, and read by all states where they must be.
 
 #![tactic(auto)]
 
-ghost use Rattle.std.specs.Prelude.{◌≡◌, true, false, not, ◌&&◌, ℕ, ◌+◌, ◌<◌, ◌≤◌, length};
-ghost use Rattle.std.proofs.Math.Option.{none};
+ghost use Rattle.std.specs.Prelude.{◌≡◌, false, not, ◌&&◌, ℕ, ◌+◌, ◌<◌, ◌≤◌, length, None, IfOk};
+ghost use Rattle.std.specs.Result.{result_err};
 ghost use Rattle.folder.specs.Fields.{field_limit};
 ghost use Rattle.expressions.specs.Limits.{most_expressions};
 ghost use Rattle.expressions.specs.Reading.{has_bit};
@@ -12,16 +12,16 @@ ghost use Rattle.expressions.specs.Right.{IsNumber, IsTruth};
 ghost use Rattle.expressions.specs.States.{lacked_by};
 ghost use Rattle.states.specs.Needed.{is_up};
 ghost use Rattle.states.specs.Read.{reads_known, Widened};
-ghost use Rattle.model.specs.Limits.{most_variables};
 ghost use Rattle.model.specs.Model.{model_of};
 ghost use Rattle.building.specs.First.{◌orelse◌, given, first};
 ghost use Rattle.held.specs.Held.{child_field, node_in, label_in, NodeHere};
-ghost use Rattle.wants.specs.Wants.{found, MasksOf, IsRead, truth_wants_in, number_wants_in, guards_in, own_in, result_in, results_in, children_end, ReadBy, AllRead, LabelFlagged, StateSettled, NodeRead};
+ghost use Rattle.wants.specs.Wants.{MasksOf, truth_wants_in, number_wants_in, guards_in, own_in, result_in, results_in, children_end, ReadBy, AllRead, LabelFlagged, StateSettled, NodeRead};
 
-use expressions::{MOST_EXPRESSIONS, MOST_VARIABLES, NO_VARIABLE};
+use expressions::{MOST_EXPRESSIONS, MOST_VARIABLES};
 use nodes::{CHILD, READ, SET, STATE};
+use std::ops::Range;
 
-// ---- one node's rows
+// ---- one node's rows, read in records while they are built; `expand` reads the nodes of a folder, and its contracts speak of those
 
 // What every entry is in the concrete state of node n.
 pub fn state_of(m: &[u8], nb: &[u8], n: usize, state: &mut [i64])
@@ -89,7 +89,7 @@ fn ask(
     folder::byte_at(known, e) == 1
 }
 
-// The variable that entry e lacks in the label of node n, where it reads unknown.
+// The variable that entry e, which reads unknown, lacks in the label of node n.
 fn lacks(m: &[u8], nb: &[u8], n: usize, masks: &[u16], e: usize) -> usize
     requires node_here { NodeHere m.now nb.now n }
     requires masks_of { MasksOf m.now masks.now }
@@ -101,8 +101,8 @@ fn lacks(m: &[u8], nb: &[u8], n: usize, masks: &[u16], e: usize) -> usize
     mentions::missing_of(vars, mentions::mask_at(masks, e), set)
 }
 
-// What the truth e wants.
-fn truth_wants(
+// What entry e wants, a truth or a number.
+fn entry_wants(
     m: &[u8],
     nb: &[u8],
     n: usize,
@@ -110,47 +110,17 @@ fn truth_wants(
     state: &[i64],
     e: usize,
     known: &mut [u8],
-) -> usize
+) -> Option<usize>
     requires node_read { NodeRead m.now nb.now n masks.now known.old state.now }
-    requires truth { IsTruth (model_of m.now).entries e }
-    ensures result_value { found result ≡ truth_wants_in m.now nb.now n e }
+    requires e_bound { e < (model_of m.now).entries.count }
+    ensures truth_value { IsTruth (model_of m.now).entries e → result ≡ truth_wants_in m.now nb.now n e }
+    ensures number_value { IsNumber (model_of m.now).entries e → result ≡ number_wants_in m.now nb.now n e }
     ensures label_flagged { LabelFlagged m.now nb.now n known.new }
 {
     if ask(m, nb, n, masks, state, e, known) {
-        return NO_VARIABLE;
+        return None;
     }
-    lacks(m, nb, n, masks, e)
-}
-
-// A number, and whether it is asked for.
-#[derive(Clone, Copy)]
-struct Question {
-    entry: usize,
-    asked: bool,
-}
-
-// What a number wants, if it is asked for.
-fn number_wants(
-    m: &[u8],
-    nb: &[u8],
-    n: usize,
-    masks: &[u16],
-    state: &[i64],
-    q: Question,
-    known: &mut [u8],
-) -> usize
-    requires node_read { NodeRead m.now nb.now n masks.now known.old state.now }
-    requires number { IsNumber (model_of m.now).entries q.entry }
-    ensures result_value { found result ≡ given q.asked (number_wants_in m.now nb.now n q.entry) }
-    ensures label_flagged { LabelFlagged m.now nb.now n known.new }
-{
-    if !q.asked {
-        return NO_VARIABLE;
-    }
-    if ask(m, nb, n, masks, state, q.entry, known) {
-        return NO_VARIABLE;
-    }
-    lacks(m, nb, n, masks, q.entry)
+    Some(lacks(m, nb, n, masks, e))
 }
 
 // ---- 19
@@ -162,23 +132,19 @@ fn guards_want(
     masks: &[u16],
     state: &[i64],
     known: &mut [u8],
-) -> usize
+) -> Option<usize>
     requires { NodeRead m.now nb.now n masks.now known.old state.now }
-    ensures result_value { found result ≡ guards_in m.now nb.now n }
+    ensures result_value { result ≡ guards_in m.now nb.now n }
     ensures label_flagged { LabelFlagged m.now nb.now n known.new }
 {
     let cs = folder::body(m, 3);
-    let commands = folder::count_of(4, cs);
-    let mut c = 0;
-    while c < commands {
+    for c in 0..folder::count_of(4, cs) {
         let e = folder::field(4, cs, c, 0);
-        let w = truth_wants(m, nb, n, masks, state, e, known);
-        if w != NO_VARIABLE {
-            return w;
+        if let Some(v) = entry_wants(m, nb, n, masks, state, e, known) {
+            return Some(v);
         }
-        c += 1;
     }
-    NO_VARIABLE
+    None
 }
 
 // What guards and target want, if they are asked for.
@@ -190,30 +156,28 @@ fn own_wants(
     state: &[i64],
     asked: bool,
     known: &mut [u8],
-) -> usize
+) -> Option<usize>
     requires { NodeRead m.now nb.now n masks.now known.old state.now }
-    ensures result_value { found result ≡ given asked (own_in m.now nb.now n) }
+    ensures result_value { result ≡ given asked (own_in m.now nb.now n) }
     ensures label_flagged { LabelFlagged m.now nb.now n known.new }
 {
     if !asked {
-        return NO_VARIABLE;
+        return None;
     }
-    let w = guards_want(m, nb, n, masks, state, known);
-    if w != NO_VARIABLE {
-        return w;
+    if let Some(v) = guards_want(m, nb, n, masks, state, known) {
+        return Some(v);
     }
     let target = folder::field(4, folder::body(m, 0), 0, 1);
-    truth_wants(m, nb, n, masks, state, target, known)
+    entry_wants(m, nb, n, masks, state, target, known)
 }
 
 // ---- 21
 
-// A branch record and the child that it gives; of several, the first and how many.
+// A branch record and the child that it gives.
 #[derive(Clone, Copy)]
 struct Lead {
     record: usize,
     node: usize,
-    count: usize,
 }
 
 // Variable v is in the set s, and not in t.
@@ -232,11 +196,11 @@ fn result_wants(
     state: &[i64],
     lead: Lead,
     known: &mut [u8],
-) -> usize
+) -> Option<usize>
     requires node_read { NodeRead m.now nb.now n masks.now known.old state.now }
     requires record_bound { (lead.record < (model_of m.now).records) × (lead.node ≤ field_limit) }
     requires read_by { ReadBy m.now nb.now n lead.node lead.record }
-    ensures result_value { found result ≡ result_in m.now nb.now n lead.node lead.record }
+    ensures result_value { result ≡ result_in m.now nb.now n lead.node lead.record }
     ensures label_flagged { LabelFlagged m.now nb.now n known.new }
 {
     let vars = graph::variable_count(m);
@@ -244,40 +208,19 @@ fn result_wants(
     let bs = folder::body(m, 4);
     let set = folder::field(size, nb, lead.node, SET);
     let read = folder::field(size, nb, lead.node, READ);
-    let mut v = 0;
-    while v < vars {
-        let q = Question {
-            entry: folder::field(2 + 2 * vars, bs, lead.record, 1 + v),
-            asked: is_new(set, read, v),
-        };
-        let w = number_wants(m, nb, n, masks, state, q, known);
-        if w != NO_VARIABLE {
-            return w;
+    for v in 0..vars {
+        if !is_new(set, read, v) {
+            continue;
         }
-        v += 1;
+        let e = folder::field(2 + 2 * vars, bs, lead.record, 1 + v);
+        if let Some(w) = entry_wants(m, nb, n, masks, state, e, known) {
+            return Some(w);
+        }
     }
-    NO_VARIABLE
+    None
 }
 
-// Of the nodes from `start`, by number from there: the first, from `from` on, that tracks what is not marked as read; `end` if there is none below it.
-pub fn next_unread(vars: usize, nb: &[u8], start: usize, from: usize, end: usize) -> usize
-    requires { (vars ≤ most_variables) × (from ≤ end) × (start + end ≤ field_limit) }
-    ensures lower_bound { (from ≤ result) × (result ≤ end) }
-    ensures by_index { (b : ℕ) → from ≤ b → b < result → IsRead vars nb.now (start + b) }
-{
-    let size = graph::node_size(vars);
-    let mut b = from;
-    while b < end {
-        let x = start + b;
-        if folder::field(size, nb, x, SET) != folder::field(size, nb, x, READ) {
-            return b;
-        }
-        b += 1;
-    }
-    end
-}
-
-// What the children of one command want. Those that are read want nothing.
+// What the children of one command want, of which there are `count`. Those whose labels are marked as read want nothing.
 fn branches_want(
     m: &[u8],
     nb: &[u8],
@@ -285,40 +228,34 @@ fn branches_want(
     masks: &[u16],
     state: &[i64],
     lead: Lead,
+    count: usize,
     known: &mut [u8],
-) -> usize
+) -> Option<usize>
     requires node_read { NodeRead m.now nb.now n masks.now known.old state.now }
-    requires count_bound { (lead.record + lead.count ≤ (model_of m.now).records) × (lead.node + lead.count ≤ field_limit) }
-    requires by_index { (b : ℕ) → b < lead.count → ReadBy m.now nb.now n (lead.node + b) (lead.record + b) }
-    ensures result_value { found result ≡ first lead.count (λ b. result_in m.now nb.now n (lead.node + b) (lead.record + b)) }
+    requires count_bound { (lead.record + count ≤ (model_of m.now).records) × (lead.node + count ≤ field_limit) }
+    requires by_index { (b : ℕ) → b < count → ReadBy m.now nb.now n (lead.node + b) (lead.record + b) }
+    ensures result_value { result ≡ first count (λ b. result_in m.now nb.now n (lead.node + b) (lead.record + b)) }
     ensures label_flagged { LabelFlagged m.now nb.now n known.new }
 {
-    let vars = graph::variable_count(m);
-    let start = lead.node;
-    let count = lead.count;
-    let mut b = next_unread(vars, nb, start, 0, count);
-    while b < count {
+    let size = graph::node_size(graph::variable_count(m));
+    for b in 0..count {
         let one = Lead {
             record: lead.record + b,
-            node: start + b,
-            count: 1,
+            node: lead.node + b,
         };
-        let w = result_wants(m, nb, n, masks, state, one, known);
-        if w != NO_VARIABLE {
-            return w;
+        let set = folder::field(size, nb, one.node, SET);
+        let read = folder::field(size, nb, one.node, READ);
+        if set == read {
+            continue;
         }
-        b = next_unread(vars, nb, start, b + 1, count);
+        if let Some(v) = result_wants(m, nb, n, masks, state, one, known) {
+            return Some(v);
+        }
     }
-    NO_VARIABLE
+    None
 }
 
-// What the children want, and where they end if they want nothing.
-#[derive(Clone, Copy)]
-struct Results {
-    wanted: usize,
-    end: usize,
-}
-
+// Where the children end, or else what they want.
 fn results_want(
     m: &[u8],
     nb: &[u8],
@@ -326,95 +263,71 @@ fn results_want(
     masks: &[u16],
     state: &[i64],
     known: &mut [u8],
-) -> Results
+) -> Result<usize, usize>
     requires node_read { NodeRead m.now nb.now n masks.now known.old state.now }
     requires all_read { AllRead m.now nb.now n }
     requires n_bound { children_end m.now nb.now n ≤ field_limit }
-    ensures wanted_value { found result.wanted ≡ results_in m.now nb.now n }
-    ensures end_value { found result.wanted ≡ none → result.end ≡ children_end m.now nb.now n }
+    ensures wanted_value { result_err result ≡ results_in m.now nb.now n }
+    ensures end_value { IfOk result (λ end. end ≡ children_end m.now nb.now n) }
     ensures label_flagged { LabelFlagged m.now nb.now n known.new }
 {
     let cs = folder::body(m, 3);
-    let commands = folder::count_of(4, cs);
     let size = graph::node_size(graph::variable_count(m));
     let mut node = folder::field(size, nb, n, CHILD);
     let mut record = 0;
-    let mut c = 0;
-    while c < commands {
+    for c in 0..folder::count_of(4, cs) {
         let branches = folder::field(4, cs, c, 1);
         let count = nodes::if_on(nodes::is_on(cs, state, c), branches);
-        let lead = Lead {
-            record,
-            node,
-            count,
-        };
-        let w = branches_want(m, nb, n, masks, state, lead, known);
-        if w != NO_VARIABLE {
-            return Results {
-                wanted: w,
-                end: node,
-            };
+        let lead = Lead { record, node };
+        if let Some(v) = branches_want(m, nb, n, masks, state, lead, count, known) {
+            return Err(v);
         }
         record += branches;
         node += count;
-        c += 1;
     }
-    Results {
-        wanted: NO_VARIABLE,
-        end: node,
-    }
+    Ok(node)
 }
 
 // ---- a node
 
-// What an expanded node's label wants; and where its children start and end, if it wants nothing.
-#[derive(Clone, Copy)]
-pub struct Wish {
-    pub wanted: usize,
-    pub start: usize,
-    pub end: usize,
-}
-
-// Its guards and its target are asked for only where they are not known to read known.
-pub fn expanded_wants(m: &[u8], nb: &[u8], n: usize, masks: &[u16], asked: bool) -> Wish
+// Where the children of an expanded node start and end, or else what its label wants. Its guards and its target are asked for
+// only where they are not known to read known.
+pub fn expanded_wants(
+    m: &[u8],
+    nb: &[u8],
+    n: usize,
+    masks: &[u16],
+    asked: bool,
+) -> Result<Range<usize>, usize>
     requires node_here { NodeHere m.now nb.now n }
     requires masks_of { MasksOf m.now masks.now }
     requires all_read { AllRead m.now nb.now n }
     requires n_bound { children_end m.now nb.now n ≤ field_limit }
-    requires n_value { asked ≡ false → own_in m.now nb.now n ≡ none }
-    ensures wanted_value { found result.wanted ≡ (own_in m.now nb.now n orelse results_in m.now nb.now n) }
-    ensures start_value { found result.wanted ≡ none → (result.start ≡ node_in m.now nb.now n child_field) × (result.end ≡ children_end m.now nb.now n) }
+    requires n_value { asked ≡ false → own_in m.now nb.now n ≡ None }
+    ensures wanted_value { result_err result ≡ (own_in m.now nb.now n orelse results_in m.now nb.now n) }
+    ensures children_value { IfOk result (λ r. (r.start ≡ node_in m.now nb.now n child_field) × (r.end ≡ children_end m.now nb.now n)) }
 {
     let mut known = [0u8; MOST_EXPRESSIONS];
     let mut state = [0i64; MOST_EXPRESSIONS];
     settle(m, nb, n, &mut known, &mut state);
     let size = graph::node_size(graph::variable_count(m));
     let start = folder::field(size, nb, n, CHILD);
-    let w = own_wants(m, nb, n, masks, &state, asked, &mut known);
-    if w != NO_VARIABLE {
-        return Wish {
-            wanted: w,
-            start,
-            end: start,
-        };
+    if let Some(v) = own_wants(m, nb, n, masks, &state, asked, &mut known) {
+        return Err(v);
     }
-    let r = results_want(m, nb, n, masks, &state, &mut known);
-    Wish {
-        wanted: r.wanted,
-        start,
-        end: r.end,
-    }
+    let end = results_want(m, nb, n, masks, &state, &mut known)?;
+    Ok(start..end)
 }
 
 // What a target node's label wants.
-pub fn target_wants(m: &[u8], nb: &[u8], n: usize, masks: &[u16]) -> usize
+pub fn target_wants(m: &[u8], nb: &[u8], n: usize, masks: &[u16]) -> Option<usize>
     requires node_here { NodeHere m.now nb.now n }
     requires masks_of { MasksOf m.now masks.now }
-    ensures { found result ≡ truth_wants_in m.now nb.now n (model_of m.now).target }
+    ensures { result ≡ truth_wants_in m.now nb.now n (model_of m.now).target }
 {
     let mut known = [0u8; MOST_EXPRESSIONS];
     let mut state = [0i64; MOST_EXPRESSIONS];
     settle(m, nb, n, &mut known, &mut state);
     let target = folder::field(4, folder::body(m, 0), 0, 1);
-    truth_wants(m, nb, n, masks, &state, target, &mut known)
+    entry_wants(m, nb, n, masks, &state, target, &mut known)
 }

@@ -1,17 +1,22 @@
 -- The order on ℤ: a ⊑ b where b is a and a natural number more. Sums, differences, products, the smaller and the larger of two keep it.
 -- Assumes nothing.
 use Prim.Native.Nat.{ℕ, zero, suc, ◌+◌, ◌-◌, ◌<◌, ◌≤◌}
-use mathlib.Core.Path.{◌≡◌, refl, sym, ap}
-use mathlib.Core.Bool.{Bool, true, false, cond, false≢true}
+use mathlib.Core.Path.{◌≡◌, refl, sym, ap, ◌∙◌}
+use mathlib.Core.Bool.{Bool, true, false, not, cond, false≢true}
 use native.Mathlib.Nat.{le_trans, le-suc, le_of_lt, le_antisymm}
 use native.Mathlib.Omega.{arith}
 use borrow.Author.Tests.{lt-ltb, le-ltb, leb-true, leb-false, le-leb}
-use lib.Dec.{ltb, leb}
+use lib.Dec.{ltb, leb, eqb}
 use lib.IntN.{ℤ, pos, negsuc, neg_ℤ, sub_ℕ, ◌+ℤ◌, ◌-ℤ◌, ◌*ℤ◌, +ℤ_assoc, +ℤ_comm, +ℤ_idr, +ℤ_invl, neg_ℤ-+ℤ, *ℤ_comm, *ℤ-negsuc, suc_ℤ-*ℤ, zero-*ℤ}
-use lib.Signed.{le_z, mag, ◌≤ℤ◌}
+use lib.Signed.{le_z, lt_z, mag, ◌≤ℤ◌}
+use mir.Syntax.{w64}
+use mir.Val.{SFits, to_z, of_z}
+use Rattle.std.specs.Int.{int_min, int_max}
+use Rattle.std.proofs.lemmas.Bool.Decides.{nat_tests}
 use Rattle.folder.specs.Pick.{pick}
 use Rattle.folder.proofs.PickLaws.{pick-by}
-use Rattle.folder.proofs.Decides.{Decides, at_most_z, and_both, both-and}
+use Rattle.folder.proofs.Decides.{Decides, at_most_z, and_both, both-and, same}
+use Rattle.folder.proofs.Signed.{back_fits}
 use Rattle.whole.specs.Order.{min_z, max_z, eq_z}
 
 infix 4 ◌⊑◌
@@ -166,3 +171,39 @@ eq_z-refl a = let h : le_z a a ≡ true = more-le a a (⊑_refl a) in both-and (
 
 pub equal-decided : (a b : ℤ) → Decides (a ≡ b) (eq_z a b)
 equal-decided a b = record { yes = eq_z-is a b; no = λ e. rw e (eq_z-refl b) }
+
+-- ---- the code's tests: `==` compares the bits, and `min` and `max` ask which of two is less
+same-test : {P : Type 0} (a b : Bool) → Decides P a → Decides P b → a ≡ b
+same-test true b p q = sym (q.no (p.yes refl))
+same-test false true p q = p.no (q.yes refl)
+same-test false false p q = refl
+
+pub equal-bits : (a b : ℤ) → SFits w64 a → SFits w64 b → eqb (of_z w64 a) (of_z w64 b) ≡ eq_z a b
+equal-bits a b h l = same-test _ _ bits (equal-decided a b)
+  where
+    bits : Decides (a ≡ b) (eqb (of_z w64 a) (of_z w64 b))
+    bits = record {
+      yes = λ e. sym (back_fits h) ∙ ap (to_z w64) ((same (of_z w64 a) (of_z w64 b)).yes e) ∙ back_fits l;
+      no = λ e. (same (of_z w64 a) (of_z w64 b)).no (ap (of_z w64) e);
+    }
+
+turned-below : (a b : ℕ) → ltb b a ≡ not (leb a b)
+turned-below a b = grind (arith, nat_tests)
+
+turned : (a b : ℤ) → lt_z b a ≡ not (le_z a b)
+turned (pos a) (pos b) = turned-below a b
+turned (pos a) (negsuc b) = refl
+turned (negsuc a) (pos b) = refl
+turned (negsuc a) (negsuc b) = turned-below b a
+
+other-way : {A : Type 0} (t : Bool) (x y : A) → cond (not t) x y ≡ pick t y x
+other-way true x y = refl
+other-way false x y = refl
+
+pub min-is : (a b : ℤ) → int_min a b ≡ min_z a b
+unfolding min_z
+min-is a b = rw (turned a b) (other-way (le_z a b) b a)
+
+pub max-is : (a b : ℤ) → int_max a b ≡ max_z a b
+unfolding max_z
+max-is a b = rw (turned a b) (other-way (le_z a b) a b)

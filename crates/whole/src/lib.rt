@@ -44,17 +44,17 @@ pub fn less(a: i64, b: i64) -> bool
 pub fn equal(a: i64, b: i64) -> bool
     ensures { result ≡ eq_z a b }
 {
-    at_most(a, b) & at_most(b, a)
+    a == b
 }
 
 pub fn min(a: i64, b: i64) -> i64
     ensures { result ≡ min_z a b }
 {
-    if at_most(a, b) { a } else { b }
+    a.min(b)
 }
 
 pub fn max(a: i64, b: i64) -> i64
     ensures { result ≡ max_z a b }
 {
-    if at_most(a, b) { b } else { a }
+    a.max(b)
 }

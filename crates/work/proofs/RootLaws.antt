@@ -48,6 +48,3 @@ module _ (vars : ℕ) (y : List ℕ) where
 
     pub begin-next : {new : List ℕ} → new ≡ put_in vars nb 0 i u → Begun vars y (i + 1) old new
     begin-next z = subst (λ (x : List ℕ). Begun vars y (i + 1) old x) (sym z) (record { stays = next-stays; within = omega arith; is = λ f q. next-is f q (dec_lt f i) })
-
-  pub begin-over : {old new : List ℕ} {i : ℕ} → Begun vars y i old new → state_field + vars + 1 ≤ i → Begun vars y (state_field + vars + 1) old new
-  begin-over {old} {new} {i} w l = let e : i ≡ state_field + vars + 1 = omega (arith, w.within) in subst (λ (k : ℕ). Begun vars y k old new) e w

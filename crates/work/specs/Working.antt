@@ -1,7 +1,6 @@
 -- Document 02, 2.5 and 2.6: what the builder's loop holds.
 -- Assumes nothing.
-use Rattle.std.specs.Prelude.{ℕ, ◌+◌, ◌*◌, ◌<◌, ◌≤◌, min, max, ◌≡◌, List, eqb, length}
-use Rattle.std.proofs.Math.Option.{Option, none, some}
+use Rattle.std.specs.Prelude.{ℕ, ◌+◌, ◌*◌, ◌<◌, ◌≤◌, min, max, ◌≡◌, List, eqb, length, Option, None, Some}
 use Rattle.folder.specs.Pick.{pick}
 use Rattle.model.specs.Layout.{variable_count}
 use Rattle.model.specs.Model.{model_of}
@@ -78,13 +77,13 @@ pub record ToGrow (m : List ℕ) (w : Work) (nb marks : List ℕ) (n : ℕ) : Ty
 
 -- By the move.
 abbrev pub ToMake : List ℕ → Work → List ℕ → List ℕ → Option Move → Type 0
-ToMake m w nb marks none = ToGrow m w nb marks w.next
-ToMake m w nb marks (some (track n v)) = ToRepair m w nb marks n
-ToMake m w nb marks (some (adopt n)) = ToRepair m w nb marks n
-ToMake m w nb marks (some (drop n)) = ToRepair m w nb marks n
-ToMake m w nb marks (some (cover_by n c)) = ToGrow m w nb marks n
-ToMake m w nb marks (some (reach n)) = ToGrow m w nb marks n
-ToMake m w nb marks (some (expand n)) = ToGrow m w nb marks n
+ToMake m w nb marks None = ToGrow m w nb marks w.next
+ToMake m w nb marks (Some (track n v)) = ToRepair m w nb marks n
+ToMake m w nb marks (Some (adopt n)) = ToRepair m w nb marks n
+ToMake m w nb marks (Some (drop n)) = ToRepair m w nb marks n
+ToMake m w nb marks (Some (cover_by n c)) = ToGrow m w nb marks n
+ToMake m w nb marks (Some (reach n)) = ToGrow m w nb marks n
+ToMake m w nb marks (Some (expand n)) = ToGrow m w nb marks n
 
 -- ---- a move made
 

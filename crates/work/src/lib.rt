@@ -14,6 +14,7 @@ use nodes::STATE;
 
 // Of a graph while it is built: how many nodes it has and how many bytes; which node was opened last, past all nodes if its
 // label is taken into account; from where to where nodes may be marked; below which none waits; and how many wait.
+// `fresh` stays a number: what the loop keeps compares nodes with it, and no node is past all nodes.
 #[derive(Clone, Copy)]
 pub struct Work {
     pub nodes: usize,
@@ -25,16 +26,17 @@ pub struct Work {
     pub waiting: usize,
 }
 
+// A function, and `larger` too: the laws of what is marked speak of `min` and `max`, and the methods' contracts of an order.
 pub fn smaller(a: usize, b: usize) -> usize
     ensures { result ≡ min a b }
 {
-    if a < b { a } else { b }
+    a.min(b)
 }
 
 pub fn larger(a: usize, b: usize) -> usize
     ensures { result ≡ max a b }
 {
-    if a < b { b } else { a }
+    a.max(b)
 }
 
 // Node n, which waited, has been covered or opened: it alone is marked. `fresh` is the node opened last, if one was.
@@ -68,10 +70,7 @@ pub fn put_root(vars: usize, y: &[u8], nb: &mut [u8])
     requires { (0 < vars) × (vars ≤ most_variables) × (node_size vars ≤ length nb.old) }
     ensures { Begun vars y.now (state_field + vars + 1) nb.old nb.new }
 {
-    let last = STATE + vars + 1;
-    let mut f = 0;
-    while f < last {
+    for f in 0..STATE + vars + 1 {
         nodes::put_field(vars, nb, 0, f, root_field(vars, y, f));
-        f += 1;
     }
 }

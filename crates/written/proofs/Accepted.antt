@@ -9,8 +9,7 @@ use native.Mathlib.Omega.{arith}
 use lib.ListN.{length}
 use Rattle.folder.specs.Tab.{passing}
 use Rattle.folder.specs.Contents.{count_of}
-use Rattle.folder.specs.declared.Outcome.{Outcome}
-use Rattle.folder.specs.declared.Outcome.TheVariants.{Accepted}
+use Rattle.folder.specs.Table.{Outcome}
 use Rattle.folder.proofs.TabLaws.{length-tab}
 use Rattle.folder.proofs.ListLaws.{passing-few}
 use Rattle.model.specs.Model.{Model, model_of}
@@ -26,7 +25,6 @@ use Rattle.graph.specs.Rules.{enabled_in}
 use Rattle.graph.specs.Table.{graph_outcome, summary, answer_of, graph_answer}
 use Rattle.graph.specs.Valid.{FolderRight, ContentRight, RulesRight}
 use Rattle.graph.specs.declared.Summary.{Summary}
-use Rattle.graph.specs.declared.GraphAnswer.TheVariants as Answer
 use Rattle.graph.proofs.Decided.{accepted-valid}
 use Rattle.building.specs.Length.{graph_length}
 use Rattle.building.specs.Moves.{Limit}
@@ -41,6 +39,7 @@ use Rattle.written.proofs.ReadBack.{Fitting, bytes-long, reads-back}
 use Rattle.written.proofs.LengthLaws.{written-length}
 use Rattle.written.proofs.Fits.{fitting}
 use Rattle.written.proofs.Transfer.{summary-same, content-same, rules-same}
+use Rattle.std.specs.Prelude.{Ok}
 
 -- ---- and its bytes are accepted
 module _ (m : List ℕ) (W : Models.Valid m) (G : Simulation) (K : ContentRight (model_of m) G) (A : RulesRight (model_of m) G (by_states (model_of m) G)) (some : 1 ≤ G.nodes) (few : G.nodes ≤ most_nodes) (short : length (graph_bytes (model_of m) G) ≤ most_bytes) where
@@ -77,7 +76,7 @@ module _ (m : List ℕ) (W : Models.Valid m) (G : Simulation) (K : ContentRight 
         few = omega (arith, e);
       }
 
-  pub written-accepted : graph_outcome m (graph_bytes M G) ≡ Accepted
+  pub written-accepted : graph_outcome m (graph_bytes M G) ≡ (Ok tt)
   written-accepted = (accepted-valid m (graph_bytes M G)).1 (record {
     model = W;
     rows = record { folder = folder-right; content = content-same M G (simulation_of M (graph_bytes M G)) written_same K some };
@@ -85,18 +84,18 @@ module _ (m : List ℕ) (W : Models.Valid m) (G : Simulation) (K : ContentRight 
   })
 
   -- The check tells of the bytes what the graph itself says.
-  pub written-answer : graph_answer m (graph_bytes M G) ≡ Answer.Accepted (summary G)
+  pub written-answer : graph_answer m (graph_bytes M G) ≡ Ok (summary G)
   unfolding graph_answer
   written-answer =
       ap (λ (o : Outcome). answer_of o (summary (simulation_of M (graph_bytes M G)))) written-accepted
-      ∙ ap (λ (s : Summary). Answer.Accepted s) (summary-same M G (simulation_of M (graph_bytes M G)) written_same some)
+      ∙ ap (λ (s : Summary). Ok s) (summary-same M G (simulation_of M (graph_bytes M G)) written_same some)
 
 -- ---- the graph that is built, after any number of rounds: its length
 pub built-length : (M : Model) (P : Limit) (rounds : ℕ) → length (graph_bytes M (built_graph M P rounds)) ≡ graph_length M (built M P)
 built-length M P rounds = written-length M (built M P) (values_of M (built M P) rounds)
 
 -- Of a model folder that is accepted, within limits that leave room for the root and are no wider than those of a graph.
-module _ (m : List ℕ) (accepted : model_outcome m ≡ Accepted) (P : Limit) (rounds : ℕ) (some : 1 ≤ P.most) (least : least_bytes + node_size (model_of m).variables ≤ P.longest) where
+module _ (m : List ℕ) (accepted : model_outcome m ≡ (Ok tt)) (P : Limit) (rounds : ℕ) (some : 1 ≤ P.most) (least : least_bytes + node_size (model_of m).variables ≤ P.longest) where
   W : Models.Valid m
   W = (Checked.accepted-valid m).0 accepted
 
@@ -107,8 +106,8 @@ module _ (m : List ℕ) (accepted : model_outcome m ≡ Accepted) (P : Limit) (r
     R : Rules.Accepted (model_of m) P (built_graph (model_of m) P rounds)
     R = built-accepted (model_of m) W.model P some rounds
 
-    pub every-graph-built-is-accepted : graph_outcome m (graph_bytes (model_of m) (built_graph (model_of m) P rounds)) ≡ Accepted
+    pub every-graph-built-is-accepted : graph_outcome m (graph_bytes (model_of m) (built_graph (model_of m) P rounds)) ≡ (Ok tt)
     every-graph-built-is-accepted = written-accepted m W (built_graph (model_of m) P rounds) R.content R.rules R.some (omega (arith, R.few)) (omega (arith, built-no-longer))
 
-    pub built-answer : graph_answer m (graph_bytes (model_of m) (built_graph (model_of m) P rounds)) ≡ Answer.Accepted (summary (built_graph (model_of m) P rounds))
+    pub built-answer : graph_answer m (graph_bytes (model_of m) (built_graph (model_of m) P rounds)) ≡ Ok (summary (built_graph (model_of m) P rounds))
     built-answer = written-answer m W (built_graph (model_of m) P rounds) R.content R.rules R.some (omega (arith, R.few)) (omega (arith, built-no-longer))

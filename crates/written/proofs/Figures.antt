@@ -14,7 +14,6 @@ use Rattle.mdp.specs.Demand.{Demand3}
 use Rattle.mdp.proofs.SumLaws.{greatest-below}
 use Rattle.mdp.proofs.Figures.{round-waiting, round-target, round-zero, round-suc, round-covered}
 use Rattle.mdp.proofs.Demand.{demand}
-use Rattle.folder.specs.declared.Outcome.TheVariants.{Accepted}
 use Rattle.model.specs.Model.{Model, model_of}
 use Rattle.model.specs.Chances.{mdp, initial_state}
 use Rattle.model.specs.Table.{model_outcome}
@@ -40,6 +39,7 @@ use Rattle.written.specs.Bytes.{graph_bytes}
 use Rattle.written.specs.Demand.{BuiltDemand}
 use Rattle.written.proofs.Counted.{waiting-nodes}
 use Rattle.written.proofs.Accepted.{built-answer}
+use Rattle.std.specs.Prelude.{Ok}
 
 -- ---- values that keep the value rule are no smaller than the figures, whether nodes wait or not: a node that waits counts
 -- as certain in both
@@ -91,7 +91,7 @@ module _ (M : Model) (X : ModelRight M) (G : Simulation) (K : ContentRight M G) 
       (initial_state M) (concrete_state M G) some (root-contains M X G K A some) (own M X G K A)
 
 -- ---- of a graph that is built, after any number of rounds
-module _ (m : List ℕ) (accepted : model_outcome m ≡ Accepted) (P : Limit) (rounds : ℕ) (some : 1 ≤ P.most) where
+module _ (m : List ℕ) (accepted : model_outcome m ≡ (Ok tt)) (P : Limit) (rounds : ℕ) (some : 1 ≤ P.most) where
   abbrev M : Model
   M = model_of m
 

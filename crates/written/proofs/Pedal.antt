@@ -2,7 +2,6 @@
 -- Assumes nothing.
 use Prim.Native.Nat.{ℕ, zero, suc}
 use mathlib.Core.Path.{◌≡◌, refl, sym, ap, ◌∙◌}
-use mathlib.Core.Option.{none, some}
 use mathlib.Core.List.{List, [], ◌∷◌}
 use native.Mathlib.Omega.{arith}
 use Rattle.folder.specs.Fields.{u16, u32, signed16}
@@ -10,7 +9,6 @@ use Rattle.folder.specs.Contents.{due_start, entry_ok, body, count_of, field}
 use Rattle.folder.specs.Scan.{first_bad}
 use Rattle.folder.specs.Tab.{tab, passing}
 use Rattle.folder.specs.Table.{outcome}
-use Rattle.folder.specs.declared.Outcome.TheVariants.{Accepted}
 use Rattle.whole.specs.Order.{min_z, max_z, eq_z}
 use Rattle.expressions.specs.Entries.{number_form_of, truth_form_of, number_form, truth_form, is_number, is_truth}
 use Rattle.expressions.specs.Levels.{number_at, truth_at}
@@ -37,6 +35,7 @@ use Rattle.building.specs.Values.{least_value, swept, rounds_of}
 use Rattle.building.specs.Built.{built, values_of, built_graph}
 use Rattle.building.proofs.Ending.{reached-built}
 use Rattle.written.specs.Bytes.{chain, graph_bytes}
+use Rattle.std.specs.Prelude.{Ok, None, Some}
 
 -- All that a graph is built and written by, and the model check, opened.
 unfoldable computing : ℕ
@@ -53,7 +52,7 @@ M = model_of pedal_model
 -- ---- its moves, after which there is none
 abbrev moves : ℕ → Building → List Move
 moves zero B = []
-moves (suc k) B = elim (next_move M limit B) [ none ↦ [] | some m ↦ m ∷ moves k (apply M m B) ]
+moves (suc k) B = elim (next_move M limit B) [ None ↦ [] | Some m ↦ m ∷ moves k (apply M m B) ]
 
 pub pedal-moves : moves 13 (seed M) ≡ expand 0 ∷ track 0 0 ∷ expand 1 ∷ track 1 0 ∷ expand 2 ∷ track 2 0 ∷ cover_by 3 0 ∷ adopt 3 ∷ cover_by 4 1 ∷ adopt 4 ∷ reach 5 ∷ track 5 0 ∷ []
 unfolding computing
@@ -62,11 +61,11 @@ pedal-moves = refl
 abbrev B : Building
 B = after M limit 12 (seed M)
 
-no_more : next_move M limit B ≡ none
+no_more : next_move M limit B ≡ None
 unfolding computing
 no_more = refl
 
-model-accepted : model_outcome pedal_model ≡ Accepted
+model-accepted : model_outcome pedal_model ≡ (Ok tt)
 unfolding computing
 model-accepted = refl
 

@@ -1,6 +1,6 @@
 -- Document 02, 2.5: what a graph that is built is good for.
 -- Assumes nothing.
-use Rattle.std.specs.Prelude.{ℕ, ◌<◌, ◌≡◌, List}
+use Rattle.std.specs.Prelude.{ℕ, ◌<◌, ◌≡◌, List, Ok}
 use Rattle.mdp.specs.Graph.{figure}
 use Rattle.mdp.specs.Demand.{RootBounds, FigureFits}
 use Rattle.model.specs.Model.{Model, model_of}
@@ -10,7 +10,6 @@ use Rattle.graph.specs.Simulation.{Simulation, graph}
 use Rattle.graph.specs.Labels.{concrete_state}
 use Rattle.graph.specs.Table.{summary, graph_answer}
 use Rattle.graph.specs.Demand.{Bounds}
-use Rattle.graph.specs.declared.GraphAnswer.TheVariants.{Accepted}
 use Rattle.building.specs.Moves.{Limit}
 use Rattle.building.specs.Length.{waiting_count}
 use Rattle.building.specs.Built.{built, built_graph}
@@ -25,7 +24,7 @@ module _ (m : List ℕ) (P : Limit) (rounds : ℕ) where
 
   pub record BuiltDemand : Type 0 where
     -- The graph check accepts the bytes, with the graph's own root value and counts; and so demand 3 holds of them.
-    pub answer : graph_answer m (graph_bytes M G) ≡ Accepted (summary G)
+    pub answer : graph_answer m (graph_bytes M G) ≡ Ok (summary G)
     pub bounds : Bounds m (graph_bytes M G) (summary G)
     -- Of the graph itself: its root value bounds every strategy; and if no node waits, every node's figure fits, for every h.
     pub root : RootBounds (mdp M) units (initial_state M) (G.value 0)

@@ -1,18 +1,26 @@
-use mathlib.Core.Path.{refl, ◌∙◌}
-use native.Mathlib.Omega.{arith}
-use Rattle.folder.proofs.TableLaws.{no_row, row-holds, refuses, all-rows}
+use Prim.Native.Nat.{ℕ, ◌+◌}
+use Rattle.std.proofs.Common.{◌≡◌, rules, sym, ap, ◌∙◌}
+use Rattle.std.specs.Prelude.{Err, [], ◌∷◌, leb, length}
+use Rattle.folder.specs.Table.{outcome, single}
+use Rattle.model.specs.Layout.{variable_count}
 use Rattle.model.specs.Model.{model_of}
-use Rattle.assembly.proofs.CallLaws.{slice-short, rounds-many, both-fit}
+use Rattle.graph.specs.Limits.{least_bytes}
+use Rattle.graph.specs.Simulation.{node_size}
+use Rattle.assembly.specs.Build.{one_node}
+use Rattle.assembly.proofs.CallLaws.{pair-stops, pair-goes-on}
+use Rattle.assembly.proofs.build_check.Goals.{After-check}
 use Rattle.assembly.proofs.build_check.Goals as goal
 
-pub returns-then-out-one : goal.returns-then-out-one
-returns-then-out-one c =
-    c.refuse.ensures ∙ refuses (no_row _) refl (slice-short (model_of c.args.m.now) c.args.rounds c.args.out.now (omega (arith, c.if-out-one.true))) (omega arith)
+-- Place 0 by the model.
+room : (c : After-check) → c.check.result ≡ outcome (single 35 0 (leb (one_node (model_of c.args.m.now)) (length c.args.out.now)) ∷ [])
+room c =
+    let size_is : c.node_size-one.result ≡ node_size (variable_count c.args.m.now) = c.node_size-one.ensures.0 ∙ ap node_size c.variable_count.ensures.0 in
+    c.check.ensures ∙ ap (λ (w : ℕ). outcome (single 35 0 (leb (least_bytes + w) (length c.args.out.now)) ∷ [])) size_is
 
-pub returns-then-rounds-gt-MOST_ROUNDS : goal.returns-then-rounds-gt-MOST_ROUNDS
-returns-then-rounds-gt-MOST_ROUNDS c =
-    c.refuse-then-rounds-gt-MOST_ROUNDS.ensures ∙ refuses (no_row _) refl (rounds-many (model_of c.args.m.now) c.args.rounds c.args.out.now (omega (arith, c.if-out-one.false)) c.if-rounds-gt-MOST_ROUNDS.true) (omega arith)
+pub returns-in_err-check : goal.returns-in_err-check
+returns-in_err-check c =
+    let q : c.from_residual.result ≡ Err c.in_err-check.field-0.0 = search rules in
+    q ∙ pair-stops 35 _ _ (sym c.in_err-check.was ∙ room (goal.at.returns-in_err-check c).After-check)
 
 pub returns : goal.returns
-returns c =
-    all-rows (row-holds (no_row _) refl (both-fit (model_of c.args.m.now) c.args.rounds c.args.out.now (omega (arith, c.if-out-one.false)) c.if-rounds-gt-MOST_ROUNDS.false) (omega arith))
+returns c = c.check-2.ensures ∙ pair-goes-on 35 _ _ (sym c.in_ok-check.was ∙ room (goal.at.returns c).After-check)

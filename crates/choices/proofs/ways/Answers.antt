@@ -20,7 +20,7 @@ loop-v-preserved c =
 
 pub returns : goal.returns
 unfolding combinations
-returns c = grown-over c.loop-v.invariant c.count_of-n.ensures c.loop-v-test.false
+returns c = grown-over c.loop-v.invariant c.count_of-n.ensures (omega arith)
 
 pub loop-v-init : goal.loop-v-init
 loop-v-init c = grown-start _ _

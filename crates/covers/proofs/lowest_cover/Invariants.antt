@@ -1,4 +1,3 @@
-use Prim.Native.Nat.{◌-◌}
 use mathlib.Core.Bool.{not}
 use Rattle.folder.proofs.ScanLaws.{Scanned}
 use Rattle.covers.specs.Covers.{can_cover_in}
@@ -6,6 +5,3 @@ use Rattle.covers.proofs.lowest_cover.Given as goal
 
 abbrev pub invariant-loop-c : goal.invariant-loop-c
 invariant-loop-c l = Scanned (λ i. not (can_cover_in l.vars l.nb l.n i)) l.nodes l.c
-
-abbrev pub decreases-loop-c : goal.decreases-loop-c
-decreases-loop-c l = l.nodes - l.c

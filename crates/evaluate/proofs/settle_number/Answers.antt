@@ -4,9 +4,9 @@ use mir.Val.{to_z, of_z}
 use borrow.Author.Rules.{rules}
 use Rattle.expressions.specs.Entries.{entries_of}
 use Rattle.expressions.specs.Reading.{arith_n}
-use Rattle.expressions.specs.declared.Number.TheVariants.{Known}
 use Rattle.evaluate.proofs.Rows.{number-from, parts-small}
 use Rattle.evaluate.proofs.settle_number.Goals as goal
+use Rattle.std.specs.Prelude.{Some}
 
 pub combine-requires : goal.combine-requires
 combine-requires c =
@@ -15,7 +15,7 @@ combine-requires c =
 pub returns-in-Constant : goal.returns-in-Constant
 returns-in-Constant c =
     let ok : to_z w64 (of_z w64 c.in-Constant.z) ≡ c.in-Constant.z = search rules in
-    ap Known ok ∙ number-from (entries_of c.args.x.now) c.args.t c.args.v.now c.requires.ready c.args.e c.args.known.now c.args.values.now c.requires.settled _ c.number_form-f.ensures.0 c.in-Constant.is
+    ap Some ok ∙ number-from (entries_of c.args.x.now) c.args.t c.args.v.now c.requires.ready c.args.e c.args.known.now c.args.values.now c.requires.settled _ c.number_form-f.ensures.0 c.in-Constant.is
 
 pub returns-in-Variable : goal.returns-in-Variable
 returns-in-Variable c =

@@ -1,13 +1,19 @@
-use mathlib.Core.Path.{sym, ◌∙◌}
-use mathlib.Core.Bool.{false≢true}
-use Rattle.expand.proofs.Readings.{a2-target, second-target, a2-other}
+use Rattle.std.proofs.Common.{arith}
+use Rattle.std.proofs.lemmas.Result.{err_from_is_err_and}
+use Rattle.expand.proofs.Readings.{a2-open, a2-closed, a2-target, a2-other}
 use Rattle.expand.proofs.a2.Goals as goal
 
-pub expanded_kept-requires : goal.expanded_kept-requires
-expanded_kept-requires c = record { askable = c.requires; n_value = sym c.node_field-kind.ensures.0 ∙ c.if-kind-eq-EXPANDED.true }
+pub returns-in_err-guards_known-in-1-clause-value : goal.returns-in_err-guards_known-in-1-clause-value
+returns-in_err-guards_known-in-1-clause-value c =
+    let p = err_from_is_err_and c.from_residual.result c.from_residual.ensures.1 in
+    rw (p.1, p.2) (a2-open c.requires.node c.node_field.ensures.0 c.in-1.is c.in_err-guards_known-in-1.ensures.value)
 
-pub returns-then-kind-eq-TARGET : goal.returns-then-kind-eq-TARGET
-returns-then-kind-eq-TARGET c = record { holds_value = (c.target_kept.ensures.holds_value.0 ∙ a2-target c.requires.node c.node_field-kind.ensures.0 c.if-kind-eq-TARGET.true, λ h. c.target_kept.ensures.holds_value.1 h ∙ second-target c.requires.node c.node_field-kind.ensures.0 c.if-kind-eq-TARGET.true); label_flagged = c.target_kept.ensures.label_flagged }
+pub returns-in_ok-guards_known-in-1-clause-value : goal.returns-in_ok-guards_known-in-1-clause-value
+returns-in_ok-guards_known-in-1-clause-value c =
+    a2-closed c.requires.node c.node_field.ensures.0 c.in-1.is c.in_ok-guards_known-in-1.ensures.value _ c.target_kept.ensures.value
 
-pub returns : goal.returns
-returns c = record { holds_value = (a2-other c.requires.node c.node_field-kind.ensures.0 c.if-kind-eq-EXPANDED.false c.if-kind-eq-TARGET.false, λ h. absurd (false≢true (sym h))); label_flagged = c.requires.read.flagged }
+pub returns-in-3-clause-value : goal.returns-in-3-clause-value
+returns-in-3-clause-value c = a2-target c.requires.node c.node_field.ensures.0 c.in-3.is _ c.target_kept-in-3.ensures.value
+
+pub returns-in_default-clause-value : goal.returns-in_default-clause-value
+returns-in_default-clause-value c = a2-other c.requires.node c.node_field.ensures.0 (λ e. grind arith) (λ e. grind arith)

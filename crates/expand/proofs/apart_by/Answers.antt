@@ -1,21 +1,18 @@
-use Rattle.expand.specs.Tests.{apart_by}
+use mathlib.Core.Path.{◌≡◌}
+use Rattle.std.proofs.Common.{rules}
+use Rattle.folder.specs.Scan.{all, first_bad}
+use Rattle.expand.specs.Tests.{result_at, label_at, apart_by}
 use Rattle.expand.proofs.apart_by.Goals as goal
 
-pub results_are-requires : goal.results_are-requires
-results_are-requires c = record { vars_le_most_variables = c.requires.vars_le_most_variables.0; leads = rw (c.lead_of-lead.ensures.0, c.lead_of-lead.ensures.1) c.requires.leads; most_expressions_in_bounds = c.requires.rows_long.1 }
-
-pub first_apart-requires : goal.first_apart-requires
-first_apart-requires c = record { vars_le_most_variables = c.requires.vars_le_most_variables.0; leads = rw (c.lead_of-lead.ensures.0, c.lead_of-lead.ensures.1) c.requires.leads; set_value = c.lead_of-lead.ensures.2; rows_long = c.requires.rows_long }
-
-pub returns-then-results_are : goal.returns-then-results_are
+pub returns-then-all : goal.returns-then-all
 unfolding apart_by
-returns-then-results_are c =
-    rw (← c.lead_of-lead.ensures.0, ← c.lead_of-lead.ensures.1, ← c.results_are.ensures, c.if-results_are.true) c.first_apart.ensures
+returns-then-all c =
+    let a : c.all.result ≡ all (result_at c.args.vars c.args.nb.now c.args.bs.now c.args.state.now c.lead_of-lead.result.from c.lead_of-lead.result.to) c.args.vars = c.all.ensures _ (λ v t l h. search rules) in
+    let f : c.first_bad.result ≡ first_bad (label_at c.args.vars c.args.nb.now c.args.bs.now c.args.known.now c.args.state.now c.lead_of-lead.result.from c.lead_of-lead.result.to) c.args.vars = c.first_bad.ensures _ (λ v t l h. search (rules, c.lead_of-lead.ensures.2)) in
+    rw (← c.lead_of-lead.ensures.0, ← c.lead_of-lead.ensures.1, ← a, c.if-all.true) f
 
-pub returns-else-results_are : goal.returns-else-results_are
+pub returns-else-all : goal.returns-else-all
 unfolding apart_by
-returns-else-results_are c =
-    rw (← c.lead_of-lead.ensures.0, ← c.lead_of-lead.ensures.1, ← c.results_are.ensures, c.if-results_are.false)
-
-pub lead_of-lead-requires : goal.lead_of-lead-requires
-lead_of-lead-requires c = record { vars_le_most_variables = c.requires.vars_le_most_variables; vars_in_bounds = c.requires.leads.node }
+returns-else-all c =
+    let a : c.all.result ≡ all (result_at c.args.vars c.args.nb.now c.args.bs.now c.args.state.now c.lead_of-lead.result.from c.lead_of-lead.result.to) c.args.vars = c.all.ensures _ (λ v t l h. search rules) in
+    rw (← c.lead_of-lead.ensures.0, ← c.lead_of-lead.ensures.1, ← a, c.if-all.false)

@@ -36,5 +36,5 @@ loop-c-preserved c =
 
 pub returns : goal.returns
 returns c =
-    walk-over _ _ _ _ c.loop-c.invariant c.loop-c-test.false
+    walk-over _ _ _ _ c.loop-c.invariant (omega arith)
     ∙ same_edges_lem c.requires.guards_settled c.node_field-edges.ensures.0 c.command_count-commands.ensures.0

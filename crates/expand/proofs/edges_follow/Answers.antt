@@ -1,6 +1,5 @@
 use Prim.Native.Nat.{◌+◌, ◌*◌, ◌^◌, ◌<◌, ◌≤◌}
 use mathlib.Core.Path.{◌≡◌, refl, sym, ap, ◌∙◌}
-use mathlib.Core.Bool.{false≢true}
 use native.Mathlib.Omega.{arith}
 use Rattle.folder.specs.Scan.{first_bad, all}
 use Rattle.folder.proofs.ScanLaws.{scan-next, scan-found, all-fails, all_pass}
@@ -32,8 +31,8 @@ overflow_add-branch c =
     c.edge_at-edge.result.at c.edge_at-edge.result.first c.edge_at-edge.result.branches = record { here = here; commands-in = c.body-cs.ensures; same = c.edge_at-edge.ensures.0; starting = c.edge_at-edge.ensures.1; branching = c.edge_at-edge.ensures.2 } in
     omega (arith, records-fit c.requires.node_of read c.requires.firsts_of, c.if-b-edge.true)
 
-pub apart_by-second-requires : goal.apart_by-second-requires
-apart_by-second-requires c = let held : Held c.args.m.now c.args.g.now c.variable_count-vars.result c.body-bs.result.now c.body-nb.result.now = record { variables = c.variable_count-vars.ensures.0; records-in = c.body-bs.ensures; nodes-in = c.body-nb.ensures } in
+pub apart_by-requires : goal.apart_by-requires
+apart_by-requires c = let held : Held c.args.m.now c.args.g.now c.variable_count-vars.result c.body-bs.result.now c.body-nb.result.now = record { variables = c.variable_count-vars.ensures.0; records-in = c.body-bs.ensures; nodes-in = c.body-nb.ensures } in
     let here : EdgeHere c.args.m.now c.args.g.now c.args.n c.body-eb.result.now c.node_field-edges.result c.loop-e.e c.loop-e.p = record { edges-in = c.body-eb.ensures; count = c.node_field-edges.ensures.0; within = c.loop-e-test.true; stands = c.loop-e.invariant.1 } in
     let read : EdgeRead c.args.m.now c.args.g.now c.args.n c.body-cs.result.now c.body-eb.result.now c.args.firsts.now c.node_field-edges.result c.loop-e.e c.loop-e.p
     c.edge_at-edge.result.at c.edge_at-edge.result.first c.edge_at-edge.result.branches = record { here = here; commands-in = c.body-cs.ensures; same = c.edge_at-edge.ensures.0; starting = c.edge_at-edge.ensures.1; branching = c.edge_at-edge.ensures.2 } in
@@ -45,7 +44,7 @@ returns-then-b-edge c = let held : Held c.args.m.now c.args.g.now c.variable_cou
     let read : EdgeRead c.args.m.now c.args.g.now c.args.n c.body-cs.result.now c.body-eb.result.now c.args.firsts.now c.node_field-edges.result c.loop-e.e c.loop-e.p
     c.edge_at-edge.result.at c.edge_at-edge.result.first c.edge_at-edge.result.branches = record { here = here; commands-in = c.body-cs.ensures; same = c.edge_at-edge.ensures.0; starting = c.edge_at-edge.ensures.1; branching = c.edge_at-edge.ensures.2 } in
     let b = edge-breaks c.requires.node_of read c.requires.firsts_of _ c.requires.state_settled held c.first_bad_branch-b.ensures c.if-b-edge.true in
-    let k = scan-found c.loop-e.invariant.0 c.loop-e-test.true b refl ∙ ap (first_bad _) c.node_field-edges.ensures.0 in record { holds_value = all-fails c.loop-e.invariant.0 c.loop-e-test.true b refl ∙ ap (all _) c.node_field-edges.ensures.0; next_value = (λ h. absurd (false≢true h)); second_value = (λ h. (second-found c.requires.node_of read c.requires.firsts_of _ c.requires.state_settled held c.first_bad_branch-b.ensures c.if-b-edge.true k refl c.u16_at-s.ensures.0 c.apart_by-second.ensures, branch-found c.requires.node_of read c.requires.firsts_of _ c.requires.state_settled held c.first_bad_branch-b.ensures c.if-b-edge.true k refl)); followed_to_2 = λ h. scan-followed c.loop-e.invariant.0 c.node_field-edges.ensures.0 c.loop-e.invariant.1 }
+    let k = scan-found c.loop-e.invariant.0 c.loop-e-test.true b refl ∙ ap (first_bad _) c.node_field-edges.ensures.0 in record { broken = sym (all-fails c.loop-e.invariant.0 c.loop-e-test.true b refl ∙ ap (all _) c.node_field-edges.ensures.0); by-record = branch-found c.requires.node_of read c.requires.firsts_of _ c.requires.state_settled held c.first_bad_branch-b.ensures c.if-b-edge.true k refl; by-variable = second-found c.requires.node_of read c.requires.firsts_of _ c.requires.state_settled held c.first_bad_branch-b.ensures c.if-b-edge.true k refl c.u16_at-s.ensures.0 c.apart_by.ensures; to = scan-followed c.loop-e.invariant.0 c.node_field-edges.ensures.0 c.loop-e.invariant.1 }
 
 pub overflow_add-p-in-loop-e-2 : goal.overflow_add-p-in-loop-e-2
 overflow_add-p-in-loop-e-2 c =
@@ -63,7 +62,9 @@ loop-e-preserved c =
 
 -- the cursor is past the last edge
 pub returns : goal.returns
-returns c = let q : c.loop-e.e ≡ c.node_field-edges.result = omega (arith, c.loop-e.invariant.0.within) in record { holds_value = all_pass c.loop-e.invariant.0 c.loop-e-test.false ∙ ap (all _) c.node_field-edges.ensures.0; next_value = (λ h. place-over _ _ _ (c.loop-e.invariant.1 ∙ ap (edge_at _ _ _) (q ∙ c.node_field-edges.ensures.0))); second_value = (λ h. absurd (false≢true (sym h))); followed_to_2 = λ h. absurd (false≢true (sym h)) }
+returns c =
+    let q : c.loop-e.e ≡ c.node_field-edges.result = omega (arith, c.loop-e.invariant.0.within) in
+    (sym (all_pass c.loop-e.invariant.0 (omega arith) ∙ ap (all _) c.node_field-edges.ensures.0), place-over _ _ _ (c.loop-e.invariant.1 ∙ ap (edge_at _ _ _) (q ∙ c.node_field-edges.ensures.0)))
 
 pub overflow_add-p : goal.overflow_add-p
 overflow_add-p c =

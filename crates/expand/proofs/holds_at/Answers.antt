@@ -7,4 +7,4 @@ use Rattle.expand.proofs.holds_at.Goals as goal
 
 pub returns : goal.returns
 unfolding holds_at
-returns c = c.equal.ensures ∙ ap (λ (z : ℤ). eq_z z (pos 1)) (back c.value_at.type_inv ∙ c.value_at.ensures)
+returns c = c.equal.ensures ∙ ap (λ (z : ℤ). eq_z z (pos 1)) (back c.get_or.type_inv ∙ c.get_or.ensures)

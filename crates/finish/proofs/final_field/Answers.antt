@@ -4,26 +4,26 @@ use Rattle.finish.proofs.FinalLaws.{field-later, field-kind, field-cover, field-
 use borrow.Author.Rules.{rules}
 use Rattle.finish.proofs.final_field.Goals as goal
 
-pub returns-then-f-ge-STATE : goal.returns-then-f-ge-STATE
-returns-then-f-ge-STATE c = (field-later _ _ _ _ c.if-f-ge-STATE.true c.final_value.ensures.0, c.final_value.ensures.1)
+pub returns-in-0 : goal.returns-in-0
+returns-in-0 c = (field-kind _ _ _ _ c.node_size-size.ensures.0 c.in-0.is c.field.ensures.0 c.kind_of.ensures.0, c.kind_of.ensures.1)
 
-pub returns-then-f-eq-VALUE_LOW : goal.returns-then-f-eq-VALUE_LOW
+pub returns-in-1 : goal.returns-in-1
+returns-in-1 c = (field-cover _ _ _ _ c.node_size-size.ensures.0 c.in-1.is c.field-in-1-2.ensures.0 c.field-in-1.ensures.0 c.cover_of.ensures.0, omega (arith, c.cover_of.ensures.1, c.field-in-1-2.ensures.1))
+
+pub returns-in-2 : goal.returns-in-2
 unfolding final_field
-returns-then-f-eq-VALUE_LOW c = search rules
+returns-in-2 c = search rules
 
-pub returns-then-f-eq-VALUE_HIGH : goal.returns-then-f-eq-VALUE_HIGH
+pub returns-in-3 : goal.returns-in-3
 unfolding final_field
-returns-then-f-eq-VALUE_HIGH c = search rules
+returns-in-3 c = search rules
 
-pub returns-then-f-eq-EDGES : goal.returns-then-f-eq-EDGES
+pub returns-in-4 : goal.returns-in-4
 unfolding final_field
-returns-then-f-eq-EDGES c = search rules
+returns-in-4 c = search rules
 
-pub returns-then-f-eq-KIND : goal.returns-then-f-eq-KIND
-returns-then-f-eq-KIND c = (field-kind _ _ _ _ c.node_size-size.ensures.0 c.if-f-eq-KIND.true c.field-u.ensures.0 c.kind_of.ensures.0, c.kind_of.ensures.1)
+pub returns-in-5 : goal.returns-in-5
+returns-in-5 c = (field-set _ _ _ _ c.node_size-size.ensures.0 c.in-5.is c.field-in-5.ensures.0, c.field-in-5.ensures.1)
 
-pub returns-then-f-eq-COVER : goal.returns-then-f-eq-COVER
-returns-then-f-eq-COVER c = (field-cover _ _ _ _ c.node_size-size.ensures.0 c.if-f-eq-COVER.true c.field-u.ensures.0 c.field.ensures.0 c.cover_of.ensures.0, omega (arith, c.cover_of.ensures.1, c.field-u.ensures.1))
-
-pub returns : goal.returns
-returns c = (field-set _ _ _ _ c.node_size-size.ensures.0 (search rules) c.field-u.ensures.0, c.field-u.ensures.1)
+pub returns-in_default : goal.returns-in_default
+returns-in_default c = (field-later _ _ _ _ (omega arith) c.final_value.ensures.0, c.final_value.ensures.1)

@@ -25,7 +25,7 @@ pub shape_of-nb : goal.shape_of-nb
 shape_of-nb c = c.loop-n.invariant.long
 
 pub returns : goal.returns
-returns c = done-over c.loop-n.invariant c.loop-n-test.false c.requires.nodes_in_bounds
+returns c = done-over c.loop-n.invariant (omega arith) c.requires.nodes_in_bounds
 
 pub loop-n-init : goal.loop-n-init
 loop-n-init c = done-start _ _ _

@@ -1,5 +1,5 @@
 use native.Mathlib.Omega.{arith}
-use Rattle.finish.proofs.FinalLaws.{going_start, going_next, going-over}
+use Rattle.finish.proofs.FinalLaws.{going_start, going_next}
 use Rattle.finish.proofs.put_record.Goals as goal
 
 pub put_field-requires : goal.put_field-requires
@@ -10,9 +10,6 @@ loop-f-preserved c = going_next c.loop-f.invariant c.loop-f-test.true c.requires
 
 pub shape_of-nb : goal.shape_of-nb
 shape_of-nb c = c.loop-f.invariant.laid.stays.long
-
-pub returns : goal.returns
-returns c = going-over c.loop-f.invariant c.loop-f-test.false
 
 pub loop-f-init : goal.loop-f-init
 loop-f-init c = going_start _ _ _ _

@@ -1,17 +1,20 @@
+use mathlib.Core.Path.{sym, ◌∙◌}
+use native.Mathlib.Omega.{arith}
 use borrow.Author.Rules.{rules}
 use Rattle.graph.proofs.EdgeLaws.{walk_start, walk-next, walk-found, walk-over}
 use Rattle.graph.proofs.walk_edges.Goals as goal
 
-pub loop-i-init : goal.loop-i-init
-loop-i-init c = ((λ m e. walk_start _), search rules)
+pub loop-e-init : goal.loop-e-init
+loop-e-init c = record { passed = λ m e. walk_start; within = search rules }
 
-pub loop-i-preserved : goal.loop-i-preserved
-loop-i-preserved c =
-    ((λ m e. walk-next (c.loop-i.invariant.0 m e) (c.edge_at-edge.ensures.0 m e) c.loop-i-test.true c.if-edge.true), c.edge_at-edge.ensures.1 c.if-edge.true)
+pub loop-e-preserved : goal.loop-e-preserved
+loop-e-preserved c = record {
+  passed = λ m e. walk-next (c.loop-e.invariant.passed m e) (sym (c.edge_end.ensures.at m e) ∙ c.in-Some.is);
+  within = search rules;
+}
 
-pub returns-else-edge : goal.returns-else-edge
-returns-else-edge c =
-    ((λ m e. walk-found (c.loop-i.invariant.0 m e) (c.edge_at-edge.ensures.0 m e) c.loop-i-test.true c.if-edge.false), c.loop-i.invariant.1)
+pub returns-in_default-clause-at : goal.returns-in_default-clause-at
+returns-in_default-clause-at c = λ m e. walk-found (c.loop-e.invariant.passed m e) c.loop-e-test.true (sym (c.edge_end.ensures.at m e) ∙ c.in_default.is)
 
-pub returns : goal.returns
-returns c = ((λ m e. walk-over (c.loop-i.invariant.0 m e) c.loop-i-test.false), c.loop-i.invariant.1)
+pub returns-clause-at : goal.returns-clause-at
+returns-clause-at c = λ m e. walk-over (c.loop-e.invariant.passed m e) (omega arith)

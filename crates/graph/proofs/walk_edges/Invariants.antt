@@ -1,4 +1,4 @@
-use Prim.Native.Nat.{ℕ, ◌-◌, ◌≤◌}
+use Prim.Native.Nat.{ℕ, ◌≤◌}
 use mathlib.Core.Path.{◌≡◌}
 use mathlib.Core.List.{List}
 use lib.ListN.{length}
@@ -7,8 +7,8 @@ use Rattle.model.specs.Model.{model_of}
 use Rattle.graph.proofs.EdgeLaws.{Passed}
 use Rattle.graph.proofs.walk_edges.Given as goal
 
-abbrev pub invariant-loop-i : goal.invariant-loop-i
-invariant-loop-i l = ((m : List ℕ) → l.cs ≡ body m 3 → Passed (model_of m) l.nodes l.es l.«from» l.count l.i l.k) × (l.k ≤ length l.es)
-
-abbrev pub decreases-loop-i : goal.decreases-loop-i
-decreases-loop-i l = l.count - l.i
+abbrev pub invariant-loop-e : goal.invariant-loop-e
+invariant-loop-e l = record {
+  passed : (m : List ℕ) → l.cs ≡ body m 3 → Passed (model_of m) l.nodes l.es l.«from» l.e l.k;
+  within : l.k ≤ length l.es;
+}

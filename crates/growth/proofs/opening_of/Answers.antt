@@ -22,23 +22,23 @@ cost_of-cost-requires c =
     let e = c.count_of.ensures ∙ ap (count_of 4) c.body-cs.ensures in
     omega (arith, (limits c.requires.held.model.folder).commands)
 
-pub overflow_add-w : goal.overflow_add-w
-overflow_add-w c = omega (arith, c.requires.held.kept.few, c.cost_of-cost.ensures.2)
+pub overflow_add-count : goal.overflow_add-count
+overflow_add-count c = omega (arith, c.requires.held.kept.few, c.cost_of-cost.ensures.2)
 
-pub overflow_mul-size : goal.overflow_mul-size
-overflow_mul-size c = omega (arith, mul-le-mul c.node_size-size.ensures.2 c.cost_of-cost.ensures.2)
+pub overflow_mul-len : goal.overflow_mul-len
+overflow_mul-len c = omega (arith, mul-le-mul c.node_size-size.ensures.2 c.cost_of-cost.ensures.2)
 
-pub overflow_add-size : goal.overflow_add-size
-overflow_add-size c = omega (arith, mul-le-mul c.node_size-size.ensures.2 c.cost_of-cost.ensures.2, c.cost_of-cost.ensures.3)
+pub overflow_add-len : goal.overflow_add-len
+overflow_add-len c = omega (arith, mul-le-mul c.node_size-size.ensures.2 c.cost_of-cost.ensures.2, c.cost_of-cost.ensures.3)
 
-pub overflow_add-w-then-w-cost-le-MOST_NODES : goal.overflow_add-w-then-w-cost-le-MOST_NODES
-overflow_add-w-then-w-cost-le-MOST_NODES c = omega (arith, mul-le-mul c.node_size-size.ensures.2 c.cost_of-cost.ensures.2, c.cost_of-cost.ensures.3, c.requires.lent.short, c.requires.lent.limit)
+pub overflow_add-len-2 : goal.overflow_add-len-2
+overflow_add-len-2 c = omega (arith, mul-le-mul c.node_size-size.ensures.2 c.cost_of-cost.ensures.2, c.cost_of-cost.ensures.3, c.requires.lent.short, c.requires.lent.limit)
 
-pub returns-then-w-size : goal.returns-then-w-size
-returns-then-w-size c = opening-expand c.requires.held c.requires.lent c.requires.n_lt_nodes c.state_of.ensures c.body.ensures c.field-target.ensures.0 c.value_at.ensures (c.equal.ensures ∙ ap (λ (z : ℤ). eq_z z (pos 1)) (back c.value_at.type_inv)) c.if-equal.false c.body-cs.ensures c.count_of.ensures c.cost_of-cost.ensures.0 c.cost_of-cost.ensures.1 c.if-w-cost-le-MOST_NODES.true c.variable_count.ensures.0 c.node_size-size.ensures.0 c.if-w-size.true
+pub returns-then-count-gt-MOST_NODES : goal.returns-then-count-gt-MOST_NODES
+returns-then-count-gt-MOST_NODES c = opening-many c.requires.held c.requires.lent c.requires.n_lt_nodes c.state_of.ensures c.body.ensures c.field-target.ensures.0 c.value_at.ensures (c.equal.ensures ∙ ap (λ (z : ℤ). eq_z z (pos 1)) (back c.value_at.type_inv)) c.if-equal.false c.body-cs.ensures c.count_of.ensures c.cost_of-cost.ensures.0 c.cost_of-cost.ensures.1 (omega arith)
 
-pub returns-then-w-cost-le-MOST_NODES : goal.returns-then-w-cost-le-MOST_NODES
-returns-then-w-cost-le-MOST_NODES c = opening-long c.requires.held c.requires.lent c.requires.n_lt_nodes c.state_of.ensures c.body.ensures c.field-target.ensures.0 c.value_at.ensures (c.equal.ensures ∙ ap (λ (z : ℤ). eq_z z (pos 1)) (back c.value_at.type_inv)) c.if-equal.false c.body-cs.ensures c.count_of.ensures c.cost_of-cost.ensures.0 c.cost_of-cost.ensures.1 c.if-w-cost-le-MOST_NODES.true c.variable_count.ensures.0 c.node_size-size.ensures.0 c.if-w-size.false
+pub returns-then-len-longest : goal.returns-then-len-longest
+returns-then-len-longest c = opening-long c.requires.held c.requires.lent c.requires.n_lt_nodes c.state_of.ensures c.body.ensures c.field-target.ensures.0 c.value_at.ensures (c.equal.ensures ∙ ap (λ (z : ℤ). eq_z z (pos 1)) (back c.value_at.type_inv)) c.if-equal.false c.body-cs.ensures c.count_of.ensures c.cost_of-cost.ensures.0 c.cost_of-cost.ensures.1 (omega arith) c.variable_count.ensures.0 c.node_size-size.ensures.0 (omega arith)
 
 pub returns : goal.returns
-returns c = opening-many c.requires.held c.requires.lent c.requires.n_lt_nodes c.state_of.ensures c.body.ensures c.field-target.ensures.0 c.value_at.ensures (c.equal.ensures ∙ ap (λ (z : ℤ). eq_z z (pos 1)) (back c.value_at.type_inv)) c.if-equal.false c.body-cs.ensures c.count_of.ensures c.cost_of-cost.ensures.0 c.cost_of-cost.ensures.1 c.if-w-cost-le-MOST_NODES.false
+returns c = opening-expand c.requires.held c.requires.lent c.requires.n_lt_nodes c.state_of.ensures c.body.ensures c.field-target.ensures.0 c.value_at.ensures (c.equal.ensures ∙ ap (λ (z : ℤ). eq_z z (pos 1)) (back c.value_at.type_inv)) c.if-equal.false c.body-cs.ensures c.count_of.ensures c.cost_of-cost.ensures.0 c.cost_of-cost.ensures.1 (omega arith) c.variable_count.ensures.0 c.node_size-size.ensures.0 (omega arith)

@@ -5,14 +5,14 @@ use Rattle.folder.proofs.Signed.{back16}
 use Rattle.hash.proofs.Laws.{value-more, from_end}
 use Rattle.hash.proofs.hash.Goals as goal
 
-pub loop-i-init : goal.loop-i-init
+pub loop-x-init : goal.loop-x-init
 unfolding hash_of
-loop-i-init c = (omega arith, refl)
+loop-x-init c = refl
 
-pub loop-i-preserved : goal.loop-i-preserved
-loop-i-preserved c =
-    (omega arith, value-more c.loop-i.h c.loop-i.i c.args.s.now c.loop-i.invariant.1 (omega arith) (c.bits_of.ensures.0 ∙ ap bits (back16 c.bits_of-arg-1.given)) c.field_step-h.ensures)
+pub loop-x-preserved : goal.loop-x-preserved
+loop-x-preserved c =
+    value-more c.loop-x.h c.loop-x.x-index c.args.s.now c.loop-x.invariant (omega arith) (c.bits_of.ensures.0 ∙ ap bits (back16 c.bits_of-arg-1.given)) c.field_step-h.ensures
 
 pub returns : goal.returns
 returns c =
-    sym (from_end c.loop-i.h c.loop-i.i c.args.s.now (omega arith)) ∙ c.loop-i.invariant.1
+    sym (from_end c.loop-x.h c.loop-x.x-index c.args.s.now (omega arith)) ∙ c.loop-x.invariant

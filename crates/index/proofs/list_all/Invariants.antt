@@ -7,6 +7,3 @@ use Rattle.index.proofs.list_all.Given as goal
 
 abbrev pub invariant-loop-n : goal.invariant-loop-n
 invariant-loop-n l = Listed (listed_in l.vars l.nb) l.nodes l.initial.listing l.listing l.n l.count × (Seen l.vars l.nb l.n l.seen × (length l.seen ≡ length l.initial.seen))
-
-abbrev pub decreases-loop-n : goal.decreases-loop-n
-decreases-loop-n l = l.nodes - l.n

@@ -3,5 +3,5 @@ use Rattle.labels.proofs.a1.Goals as goal
 
 pub returns : goal.returns
 returns c =
-    a1-is (record { variables = c.variable_count-vars.ensures.0; nodes = c.body-nb.ensures }) _
-    c.node_field-t.ensures.0 c.first_apart.ensures
+    a1-is (record { variables = c.nodes_of-nodes.ensures.0; nodes = c.nodes_of-nodes.ensures.1 }) _
+    c.field.ensures.0 c.agree.ensures

@@ -6,5 +6,5 @@ use Rattle.labels.proofs.c3.Goals as goal
 
 pub returns : goal.returns
 returns c =
-    c3-is (record { variables = c.variable_count-vars.ensures.0; nodes = c.body-nb.ensures }) _
-    c.node_field.ensures.0 c.node_field-k.ensures.0 c.node_field-2.ensures.0 (c.count_of-nodes.ensures ∙ ap (λ (z : ℕ). count_of z c.body-nb.result.now) c.node_size.ensures.0)
+    c3-is (record { variables = c.nodes_of-nodes.ensures.0; nodes = c.nodes_of-nodes.ensures.1 }) _
+    c.field.ensures.0 c.field-k.ensures.0 c.field-2.ensures.0 (c.count_of-count.ensures ∙ ap (λ (z : ℕ). count_of z c.nodes_of-nodes.result.body.now) c.node_size.ensures.0)

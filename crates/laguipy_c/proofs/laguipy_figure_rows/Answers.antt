@@ -1,7 +1,8 @@
 use mathlib.Core.Path.{ap, ◌∙◌}
 use Rattle.folder.specs.Table.{outcome_number, outcome_places}
+use Rattle.laguipy_c.proofs.NumberLaws.{of-outcome}
 use Rattle.laguipy_c.proofs.laguipy_figure_rows.Goals as goal
 
 pub returns : goal.returns
 returns c =
-    record { value = c.number_of.ensures ∙ ap outcome_number c.figure_rows-o.ensures.value; first_after = c.figure_rows-o.ensures.first_after; second_after = c.figure_rows-o.ensures.second_after; place_after = c.places_of.ensures ∙ ap outcome_places c.figure_rows-o.ensures.value }
+    record { value = c.number_of.ensures ∙ (of-outcome c.figure_rows-o.result).0 ∙ ap outcome_number c.figure_rows-o.ensures.value; first_after = c.figure_rows-o.ensures.first_after; second_after = c.figure_rows-o.ensures.second_after; place_after = c.places_of.ensures ∙ (of-outcome c.figure_rows-o.result).1 ∙ ap outcome_places c.figure_rows-o.ensures.value }

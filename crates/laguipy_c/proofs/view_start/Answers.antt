@@ -3,10 +3,10 @@ use Rattle.laguipy_c.proofs.ViewLaws.{no-folder, no_body}
 use Rattle.laguipy_c.proofs.view_start.Goals as goal
 
 pub record_start-requires : goal.record_start-requires
-record_start-requires c = record { m_value = sym c.check_folder-o.ensures ∙ c.in-Accepted.is; e_bound = c.if-e-lt5.true }
+record_start-requires c = record { m_value = sym c.check_folder.ensures ∙ c.in-Ok.is; e_bound = c.if-e-lt5.true }
 
-pub returns-in-Refused : goal.returns-in-Refused
-returns-in-Refused c = no-folder c.args.m.now c.args.e c.args.i _ (sym c.check_folder-o.ensures ∙ c.in-Refused.is)
+pub returns-in-Err : goal.returns-in-Err
+returns-in-Err c = no-folder c.args.m.now c.args.e c.args.i _ (sym c.check_folder.ensures ∙ c.in-Err.is)
 
 pub returns-else-e-lt5 : goal.returns-else-e-lt5
 returns-else-e-lt5 c = no_body c.args.m.now c.args.e c.args.i c.if-e-lt5.false

@@ -1,5 +1,5 @@
 use Prim.Native.Nat.{◌<◌}
-use mathlib.Core.Path.{◌≡◌, ap, ◌∙◌}
+use mathlib.Core.Path.{◌≡◌, refl, ap, ◌∙◌}
 use native.Mathlib.Omega.{arith}
 use Rattle.model.specs.Model.{model_of}
 use Rattle.graph.specs.Simulation.{node_size}
@@ -65,21 +65,12 @@ offset_bounds-row-n-in-loop-n c = omega (arith, here (goal.at.offset_bounds-row-
 pub bounds-row-n-in-loop-n : goal.bounds-row-n-in-loop-n
 bounds-row-n-in-loop-n c = omega (arith, here (goal.at.bounds-row-n-in-loop-n c).In-loop-n, c.loop-n.invariant.round.long)
 
-pub overflow_add-n : goal.overflow_add-n
-overflow_add-n c = omega (arith, here (goal.at.overflow_add-n c).In-loop-n, c.loop-n.invariant.few)
-
-pub loop-n-smaller : goal.loop-n-smaller
-loop-n-smaller c = omega (arith, c.loop-n-test.true)
-
 pub loop-n-preserved : goal.loop-n-preserved
 loop-n-preserved c =
     let p = parts (goal.at.loop-n-preserved c).After-body-eb in
     let h = here (goal.at.loop-n-preserved c).In-loop-n in
     sweep-next c.requires.valid c.loop-n.invariant h
-    (node-value c.requires.valid p c.requires.tables h (starts (goal.at.loop-n-preserved c).After-begin_of-at) c.field-count.ensures.0 _ c.best_of-best.ensures.0 c.field-kind.ensures.0 c.field-cover.ensures.0 c.source_of-from.ensures c.value_by-value.ensures) c.still-same.ensures
+    (node-value c.requires.valid p c.requires.tables h (starts (goal.at.loop-n-preserved c).After-begin_of-at) c.field-count.ensures.0 _ c.best_of-best.ensures.0 c.field-kind.ensures.0 c.field-cover.ensures.0 c.source_of-from.ensures c.value_by-value.ensures) refl
 
 pub returns : goal.returns
-returns c = record { value = still-over c.requires.valid c.loop-n.invariant c.node_count-nodes.ensures c.loop-n-test.false; row_after = sweep-over c.requires.valid c.loop-n.invariant c.node_count-nodes.ensures c.loop-n-test.false }
-
-pub shape_of-row : goal.shape_of-row
-shape_of-row c = c.loop-n.invariant.long
+returns c = record { value = still-over c.requires.valid c.loop-n.invariant c.node_count-nodes.ensures (omega arith); row_after = sweep-over c.requires.valid c.loop-n.invariant c.node_count-nodes.ensures (omega arith) }

@@ -1,39 +1,33 @@
-use mathlib.Core.Path.{◌∙◌}
+use mathlib.Core.Path.{◌≡◌}
+use native.Mathlib.Nat.{le_refl}
 use native.Mathlib.Omega.{arith}
-use Rattle.lowering.proofs.SettledLaws.{Reached, round-start, round-over, round-long, round-held, reached-is}
-use Rattle.lowering.proofs.sweeps.Goals.{After-reached-k}
+use borrow.Author.Rules.{rules}
+use Rattle.folder.specs.Tab.{fill}
+use Rattle.graph.specs.Limits.{units}
+use Rattle.lowering.proofs.SettledLaws.{round-start, round-over, round-held, round-more, settled-row}
+use Rattle.lowering.proofs.sweeps.Goals.{After-fill}
 use Rattle.lowering.proofs.sweeps.Goals as goal
 
-pub fill_units-requires : goal.fill_units-requires
-fill_units-requires c = omega (arith, c.requires.g_in_bounds, c.node_count-nodes.ensures)
+-- Round 0.
+begun : (c : After-fill) → c.fill.new.row ≡ fill c.node_count-nodes.result (λ _. units) c.args.row.now
+begun c = c.fill.ensures (λ _. units) (λ i t l h. search rules)
 
-pub loop-k-init : goal.loop-k-init
-loop-k-init c =
-    (omega arith, round-start c.args.m.now c.args.g.now c.args.row.now c.node_count-nodes.ensures c.fill_units.ensures, omega (arith, c.requires.g_in_bounds, c.fill_units.auto.row))
+pub loop-init : goal.loop-init
+loop-init c =
+    (round-start c.args.m.now c.args.g.now c.args.row.now c.node_count-nodes.ensures (begun (goal.at.loop-init c).After-fill), omega (arith, c.requires.g_in_bounds, c.fill.auto.row))
 
-pub sweep-same-requires : goal.sweep-same-requires
-sweep-same-requires c = record { valid = c.requires.valid; tables = c.requires.tables; starts = c.requires.starts; round = round-held c.requires.valid c.loop-k.k _ c.loop-k.invariant.1 c.loop-k.invariant.2 }
+pub sweep-requires : goal.sweep-requires
+sweep-requires c = record { valid = c.requires.valid; tables = c.requires.tables; starts = c.requires.starts; round = round-held c.requires.valid c.loop.counter _ c.loop.invariant.0 c.loop.invariant.1 }
 
--- What the row holds after a turn.
-come : (c : After-reached-k)
-    → Reached c.args.m.now c.args.g.now c.loop-k.k c.reached-k.result c.args.rounds c.fill_units.new.row c.sweep-same.new.row
-come c =
-    reached-is c.requires.valid c.loop-k.k _ c.loop-k.invariant.1 c.loop-k-test.true c.sweep-same.ensures.value c.sweep-same.ensures.row_after c.reached-k.ensures
+pub returns-then-sweep : goal.returns-then-sweep
+returns-then-sweep c =
+    round-over c.args.m.now c.args.g.now c.args.row.now c.node_count-nodes.ensures (begun (goal.at.returns-then-sweep c).After-fill)
+    (settled-row c.requires.valid c.loop.counter _ c.loop.invariant.0 c.loop-test.true c.sweep.ensures.value c.sweep.ensures.row_after c.if-sweep.true) (le_refl c.args.rounds) (le_refl c.args.rounds)
 
-pub loop-k-smaller : goal.loop-k-smaller
-loop-k-smaller c =
-    let k = come (goal.at.loop-k-smaller c).After-reached-k in
-    omega (arith, k.later, k.within)
-
-pub loop-k-preserved : goal.loop-k-preserved
-loop-k-preserved c =
-    let k = come (goal.at.loop-k-preserved c).After-reached-k in
-    (k.within, k.is, c.loop-k.invariant.2)
-
-pub shape_of-row : goal.shape_of-row
-shape_of-row c =
-    round-long c.requires.valid c.loop-k.k _ c.loop-k.invariant.1 c.loop-k.invariant.2 ∙ c.fill_units.auto.row
+pub loop-preserved : goal.loop-preserved
+loop-preserved c =
+    (round-more c.requires.valid c.loop.counter _ c.loop.invariant.0 c.sweep.ensures.row_after, c.loop.invariant.1)
 
 pub returns : goal.returns
 returns c =
-    round-over c.args.m.now c.args.g.now c.args.row.now c.node_count-nodes.ensures c.fill_units.ensures c.loop-k.invariant.1 c.loop-k.invariant.0 (omega arith)
+    round-over c.args.m.now c.args.g.now c.args.row.now c.node_count-nodes.ensures (begun (goal.at.returns c).After-fill) c.loop.invariant.0 (omega arith) (omega arith)

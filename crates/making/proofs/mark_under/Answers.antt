@@ -17,7 +17,7 @@ pub shape_of-marks : goal.shape_of-marks
 shape_of-marks c = c.loop-i.invariant.1.stays.long
 
 pub returns : goal.returns
-returns c = change-over c.loop-i.invariant.1 c.loop-i.invariant.0 c.loop-i-test.false
+returns c = change-over c.loop-i.invariant.1 c.loop-i.invariant.0 (omega (arith, c.loop-i-test.false))
 
 pub loop-i-init : goal.loop-i-init
 loop-i-init c = (omega arith, change-start _)

@@ -1,13 +1,9 @@
-use mathlib.Core.Path.{refl}
-use native.Mathlib.Nat.{le_of_lt}
-use Rattle.mdp.proofs.SumLoop.{sum-start, sum-next, sum_over}
+use Rattle.std.proofs.Common.{◌≡◌, arith}
+use Rattle.mdp.proofs.SumLaws.{sum-next}
 use Rattle.model_rules.proofs.weight_sum.Goals as goal
 
-pub loop-i-init : goal.loop-i-init
-loop-i-init c = sum-start _ _ _
-
 pub loop-i-preserved : goal.loop-i-preserved
-loop-i-preserved c = sum-next c.loop-i.invariant c.loop-i-test.true c.field-sum.ensures.0 (le_of_lt c.field-sum.ensures.1)
+loop-i-preserved c = (sum-next c.loop-i.i _ c.loop-i.invariant.0 c.field-sum.ensures.0, omega arith)
 
 pub returns : goal.returns
-returns c = sum_over c.loop-i.invariant c.loop-i-test.false refl
+returns c = let e : c.loop-i.i ≡ c.args.n = omega arith in rw (← e) c.loop-i.invariant.0

@@ -1,5 +1,5 @@
 use native.Mathlib.Omega.{arith}
-use Rattle.nodes.proofs.NodeLaws.{node-start, node-next, node_over}
+use Rattle.nodes.proofs.NodeLaws.{node-start, node-next}
 use Rattle.nodes.proofs.put_node.Goals as goal
 
 pub put_field-requires : goal.put_field-requires
@@ -13,6 +13,3 @@ loop-f-init c = node-start _ _ _ _ _ _ _
 
 pub shape_of-nb : goal.shape_of-nb
 shape_of-nb c = c.loop-f.invariant.stays.long
-
-pub returns : goal.returns
-returns c = node_over _ _ _ _ _ _ c.loop-f.invariant c.loop-f-test.false

@@ -1,6 +1,7 @@
-use mathlib.Core.Path.{◌∙◌, ap}
+use mathlib.Core.Path.{◌≡◌, refl, ◌∙◌, ap}
+use borrow.Author.Rules.{rules}
 use Rattle.folder.specs.Scan.{first_bad}
-use Rattle.folder.proofs.Signed.{back}
+use Rattle.folder.proofs.FillLaws.{fill-over}
 use Rattle.folder.proofs.ScanLaws.{scan-over}
 use native.Mathlib.Omega.{arith}
 use Rattle.ranges.proofs.FillLaws.{fill_start, fill-ranged, fill-found, fill-next}
@@ -15,11 +16,20 @@ range_of-r-requires c =
 
 pub loop-e-preserved : goal.loop-e-preserved
 loop-e-preserved c =
-    fill-next c.loop-e.invariant c.loop-e-test.true c.range_of-r.ensures c.in_limits.ensures (omega arith) (omega arith)
-    (back c.struct_told-1.given.0.1) (back c.struct_told-then-in_limits-1.given.1.0.1) c.if-in_limits.true
+    fill-next c.loop-e.invariant c.loop-e-test.true c.range_of-r.ensures c.in_limits.ensures (omega arith) (omega arith) (search rules) (search rules) c.if-not-in_limits.false
 
-pub returns-else-in_limits : goal.returns-else-in_limits
-returns-else-in_limits c = record { value = fill-found c.loop-e.invariant c.loop-e-test.true c.range_of-r.ensures c.in_limits.ensures c.if-in_limits.false ∙ ap (first_bad _) c.count_of-n.ensures; lows_after = c.loop-e.invariant.low-row.is; highs_after = c.loop-e.invariant.high-row.is }
+pub returns-then-not-in_limits : goal.returns-then-not-in_limits
+returns-then-not-in_limits c = record {
+  value = fill-found c.loop-e.invariant c.loop-e-test.true c.range_of-r.ensures c.in_limits.ensures c.if-not-in_limits.true ∙ ap (first_bad _) c.count_of-n.ensures;
+  lows_after = c.loop-e.invariant.low-row.is;
+  highs_after = c.loop-e.invariant.high-row.is;
+}
 
 pub returns : goal.returns
-returns c = record { value = scan-over c.loop-e.invariant.scanned c.loop-e-test.false ∙ ap (first_bad _) c.count_of-n.ensures; lows_after = c.loop-e.invariant.low-row.is; highs_after = c.loop-e.invariant.high-row.is }
+returns c =
+    let e : c.count_of-n.result ≡ c.loop-e.e = omega (arith, c.loop-e.invariant.scanned.within, c.loop-e-test.false) in
+    record {
+      value = e ∙ scan-over c.loop-e.invariant.scanned c.loop-e-test.false ∙ ap (first_bad _) c.count_of-n.ensures;
+      lows_after = fill-over c.loop-e.invariant.low-row c.loop-e-test.false refl;
+      highs_after = fill-over c.loop-e.invariant.high-row c.loop-e-test.false refl;
+    }

@@ -1,9 +1,5 @@
-use Prim.Native.Nat.{◌-◌}
 use Rattle.ranges.proofs.FillLaws.{Filling}
 use Rattle.ranges.proofs.fill_ranges.Given as goal
 
 abbrev pub invariant-loop-e : goal.invariant-loop-e
 invariant-loop-e l = Filling l.x l.y l.initial.lows l.initial.highs l.n l.lows l.highs l.e
-
-abbrev pub decreases-loop-e : goal.decreases-loop-e
-decreases-loop-e l = l.n - l.e

@@ -1,15 +1,20 @@
+use Prim.Native.Nat.{◌+◌}
 use native.Mathlib.Omega.{arith}
-use mathlib.Core.Path.{◌∙◌}
-use Rattle.folder.proofs.Signed.{back}
-use Rattle.ranges.proofs.ProductLaws.{reach-start, reach-next, reach-over}
+use Rattle.ranges.proofs.ProductLaws.{product-back, first-product, three-more, next-product, reach-start, reach-next, reach-over}
 use Rattle.ranges.proofs.product_range.Goals as goal
 
-pub loop-i-init : goal.loop-i-init
-loop-i-init c = reach-start (back c.end_product-first.type_inv ∙ c.end_product-first.ensures)
+pub loop-p-init : goal.loop-p-init
+loop-p-init c = reach-start (product-back c.args.a c.args.b c.requires 0 (first-product c.args.a c.args.b c.end_products-products.ensures))
 
-pub loop-i-preserved : goal.loop-i-preserved
-loop-i-preserved c =
-    reach-next c.loop-i.invariant (omega (arith, c.loop-i-test.true)) (back c.end_product-p.type_inv ∙ c.end_product-p.ensures) c.hull_of-r.ensures
+pub loop-p-preserved : goal.loop-p-preserved
+loop-p-preserved c =
+    let e = c.end_products-products.ensures in
+    let l = three-more c.args.a c.args.b e in
+    reach-next c.loop-p.invariant (omega (arith, l, c.loop-p-test.true))
+    (product-back c.args.a c.args.b c.requires (c.loop-p.p-index + 1) (next-product c.args.a c.args.b e c.loop-p.p-index (omega (arith, l, c.loop-p-test.true))))
+    c.hull_of-r.ensures
 
 pub returns : goal.returns
-returns c = reach-over c.loop-i.invariant c.loop-i-test.false
+returns c =
+    let l = three-more c.args.a c.args.b c.end_products-products.ensures in
+    reach-over c.loop-p.invariant (omega (arith, l, c.loop-p-test.false))

@@ -1,15 +1,24 @@
+use mathlib.Core.Path.{◌≡◌}
 use native.Mathlib.Omega.{arith}
-use Rattle.repairs.proofs.Answering.{covered-drop, covered-adopt, covered_none}
+use Rattle.std.specs.Prelude.{None, Some}
+use Rattle.covers.specs.declared.Fault.TheVariants.{Apart, Untracked}
+use Rattle.repairs.proofs.Answering.{covered-repair}
 use Rattle.repairs.proofs.repair_covered.Goals as goal
 
-pub fault_of-fault-requires : goal.fault_of-fault-requires
-fault_of-fault-requires c = (c.variable_count.ensures.1, omega (arith, c.requires.n_lt_nodes.0, c.requires.standing.held.kept.few))
+pub fault_of-requires : goal.fault_of-requires
+fault_of-requires c = (c.variable_count.ensures.1, omega (arith, c.requires.n_lt_nodes.0, c.requires.standing.held.kept.few))
 
-pub returns-then-fault-eq23 : goal.returns-then-fault-eq23
-returns-then-fault-eq23 c = covered-drop c.requires.standing.held c.requires.n_lt_nodes.0 c.requires.n_lt_nodes.1 c.variable_count.ensures.0 c.fault_of-fault.ensures c.if-fault-eq23.true
+pub returns-in-Some-Apart : goal.returns-in-Some-Apart
+returns-in-Some-Apart c =
+    let q : c.fault_of.result ≡ Some Apart = cc in
+    covered-repair c.requires.standing.held c.requires.n_lt_nodes.0 c.requires.n_lt_nodes.1 c.variable_count.ensures.0 c.fault_of.ensures q
 
-pub returns-then-fault-eq24 : goal.returns-then-fault-eq24
-returns-then-fault-eq24 c = covered-adopt c.requires.standing.held c.requires.n_lt_nodes.0 c.requires.n_lt_nodes.1 c.variable_count.ensures.0 c.fault_of-fault.ensures c.if-fault-eq24.true
+pub returns-in-Some-Untracked : goal.returns-in-Some-Untracked
+returns-in-Some-Untracked c =
+    let q : c.fault_of.result ≡ Some Untracked = cc in
+    covered-repair c.requires.standing.held c.requires.n_lt_nodes.0 c.requires.n_lt_nodes.1 c.variable_count.ensures.0 c.fault_of.ensures q
 
-pub returns : goal.returns
-returns c = covered_none c.requires.standing.held c.requires.n_lt_nodes.0 c.requires.n_lt_nodes.1 c.variable_count.ensures.0 c.fault_of-fault.ensures c.if-fault-eq23.false c.if-fault-eq24.false
+pub returns-in-None : goal.returns-in-None
+returns-in-None c =
+    let q : c.fault_of.result ≡ None = cc in
+    covered-repair c.requires.standing.held c.requires.n_lt_nodes.0 c.requires.n_lt_nodes.1 c.variable_count.ensures.0 c.fault_of.ensures q

@@ -1,4 +1,3 @@
-use Prim.Native.Nat.{◌-◌}
 use lib.ListN.{get_or}
 use Rattle.model.specs.Model.{model_of}
 use Rattle.graph.specs.Simulation.{simulation_of}
@@ -8,6 +7,3 @@ use Rattle.rounds.proofs.fill_covers.Given as goal
 
 abbrev pub invariant-loop-n : goal.invariant-loop-n
 invariant-loop-n l = Filled (λ k. get_or l.initial.dst (source (simulation_of (model_of l.m) l.g) k) 0) l.nodes l.initial.dst l.dst l.n
-
-abbrev pub decreases-loop-n : goal.decreases-loop-n
-decreases-loop-n l = l.nodes - l.n

@@ -1,5 +1,4 @@
 use Rattle.folder.proofs.FillLaws.{Filled}
-use Prim.Native.Nat.{◌-◌}
 use mathlib.Core.Path.{◌≡◌}
 use Rattle.model.specs.Model.{model_of}
 use Rattle.graph.specs.Simulation.{simulation_of}
@@ -9,6 +8,3 @@ use Rattle.rounds.proofs.fill_next.Given as goal
 
 abbrev pub invariant-loop-n : goal.invariant-loop-n
 invariant-loop-n l = Filled (own_next (model_of l.m) (simulation_of (model_of l.m) l.g) l.src) l.nodes l.initial.dst l.dst l.n × (l.at ≡ starts_at (model_of l.m) l.g l.n)
-
-abbrev pub decreases-loop-n : goal.decreases-loop-n
-decreases-loop-n l = l.nodes - l.n

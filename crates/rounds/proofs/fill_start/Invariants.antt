@@ -1,4 +1,3 @@
-use Prim.Native.Nat.{◌-◌}
 use Rattle.model.specs.Model.{model_of}
 use Rattle.graph.specs.Simulation.{simulation_of}
 use Rattle.folder.proofs.FillLaws.{Filled}
@@ -7,6 +6,3 @@ use Rattle.rounds.proofs.fill_start.Given as goal
 
 abbrev pub invariant-loop-n : goal.invariant-loop-n
 invariant-loop-n l = Filled (own_start (model_of l.m) (simulation_of (model_of l.m) l.g)) l.nodes l.initial.dst l.dst l.n
-
-abbrev pub decreases-loop-n : goal.decreases-loop-n
-decreases-loop-n l = l.nodes - l.n

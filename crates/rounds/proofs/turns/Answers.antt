@@ -1,30 +1,35 @@
-use mathlib.Core.Path.{◌≡◌, ◌∙◌, refl}
-use Rattle.rounds.proofs.RowLaws.{second_none, round-here, turned-first, turned-second, after-start, begun, Reached, reached-is}
+use Prim.Native.Nat.{◌+◌}
+use mathlib.Core.Path.{◌≡◌, ◌∙◌, refl, sym}
+use Rattle.rounds.specs.Rounds.{first_at, second_at}
+use Rattle.rounds.proofs.RowLaws.{second_none, round-here, turned-first, turned-second, after-start, begun, Settled, at-the-end}
 use native.Mathlib.Omega.{arith}
 use Rattle.rounds.proofs.turns.Goals as goal
-use Rattle.rounds.proofs.turns.Goals.{After-reached-k}
+use Rattle.rounds.proofs.turns.Goals.{After-turn}
 
--- What the rows hold after a turn, by the round that they have come to.
-come : (c : After-reached-k)
-    → Reached c.requires.valid c.loop-k.k c.reached-k.result c.args.h c.start_round.new.dst c.args.second.now c.turn.new.first c.turn.new.second
-come c =
-    reached-is c.requires.valid c.loop-k.k _ _ _ (c.turn.ensures.first_after ∙ turned-first c.requires.valid c.loop-k.k _ _ c.loop-k.invariant.1 c.loop-k.invariant.2) (c.turn.ensures.second_after ∙ turned-second c.requires.valid c.loop-k.k _ _ c.loop-k.invariant.1 c.loop-k.invariant.2)
-    c.loop-k-test.true c.shape_of-shape.ensures.nodes-are c.reached-k.ensures
+-- What the rows hold after a turn.
+first_is : (c : After-turn) → c.turn.new.first ≡ first_at c.args.m.now c.args.g.now (c.loop-k.k + 1) c.start_round.new.dst
+first_is c = c.turn.ensures.first_after ∙ turned-first c.requires.valid c.loop-k.k _ _ c.loop-k.invariant.0 c.loop-k.invariant.1
+
+second_is : (c : After-turn) → c.turn.new.second ≡ second_at c.args.m.now c.args.g.now (c.loop-k.k + 1) c.args.second.now
+second_is c = c.turn.ensures.second_after ∙ turned-second c.requires.valid c.loop-k.k _ _ c.loop-k.invariant.0 c.loop-k.invariant.1
 
 pub loop-k-init : goal.loop-k-init
 loop-k-init c =
-    (omega arith, begun c.requires.valid c.args.first.now c.start_round.ensures, second_none c.requires.valid _, refl, refl)
+    (begun c.requires.valid c.args.first.now c.start_round.ensures, second_none c.requires.valid _, refl, refl)
 
 pub turn-requires : goal.turn-requires
-turn-requires c = record { valid = c.requires.valid; tables = c.requires.tables; round = round-here c.requires.valid c.loop-k.k _ _ c.loop-k.invariant.1 c.loop-k.invariant.2; g_in_bounds = (omega (arith, c.requires.g_in_bounds.0, c.loop-k.invariant.3, c.start_round.auto.dst), omega (arith, c.requires.g_in_bounds.1, c.loop-k.invariant.4)) }
+turn-requires c = record { valid = c.requires.valid; tables = c.requires.tables; round = round-here c.requires.valid c.loop-k.k _ _ c.loop-k.invariant.0 c.loop-k.invariant.1; g_in_bounds = (omega (arith, c.requires.g_in_bounds.0, c.loop-k.invariant.2, c.start_round.auto.dst), omega (arith, c.requires.g_in_bounds.1, c.loop-k.invariant.3)) }
 
-pub loop-k-smaller : goal.loop-k-smaller
-loop-k-smaller c =
-    let k = come (goal.at.loop-k-smaller c).After-reached-k in omega (arith, k.later, k.within)
+pub returns-then-same_first : goal.returns-then-same_first
+returns-then-same_first c =
+    let t = (goal.at.returns-then-same_first c).After-turn in
+    let s : Settled c.requires.valid c.args.h c.start_round.new.dst c.args.second.now c.turn.new.first c.turn.new.second = at-the-end c.requires.valid c.loop-k.k c.args.h _ _ (first_is t) (second_is t) c.loop-k-test.true c.shape_of-nodes.ensures.nodes-are (sym c.same_first.ensures ∙ c.if-same_first.true) in
+    record { first_after = s.first ∙ after-start c.requires.valid c.args.first.now c.start_round.ensures c.args.h; second_after = s.second }
 
 pub loop-k-preserved : goal.loop-k-preserved
 loop-k-preserved c =
-    let k = come (goal.at.loop-k-preserved c).After-reached-k in (k.within, k.first, k.second, c.turn.auto.first ∙ c.loop-k.invariant.3, c.turn.auto.second ∙ c.loop-k.invariant.4)
+    let t = (goal.at.loop-k-preserved c).After-turn in
+    (first_is t, second_is t, c.turn.auto.first ∙ c.loop-k.invariant.2, c.turn.auto.second ∙ c.loop-k.invariant.3)
 
 pub returns : goal.returns
-returns c = let e : c.loop-k.k ≡ c.args.h = omega arith in record { first_after = c.loop-k.invariant.1 ∙ rw e (after-start c.requires.valid c.args.first.now c.start_round.ensures c.args.h); second_after = c.loop-k.invariant.2 ∙ rw e refl }
+returns c = let e : c.loop-k.k ≡ c.args.h = omega arith in record { first_after = c.loop-k.invariant.0 ∙ rw e (after-start c.requires.valid c.args.first.now c.start_round.ensures c.args.h); second_after = c.loop-k.invariant.1 ∙ rw e refl }

@@ -1,11 +1,7 @@
-use Prim.Native.Nat.{◌≤◌, ◌-◌}
 use mathlib.Core.Path.{◌≡◌}
 use lib.ListN.{length}
 use Rattle.rounds.specs.Rounds.{first_at, second_at}
 use Rattle.rounds.proofs.turns.Given as goal
 
 abbrev pub invariant-loop-k : goal.invariant-loop-k
-invariant-loop-k l = (l.k ≤ l.h) × (l.first ≡ first_at l.m l.g l.k l.initial.first) × (l.second ≡ second_at l.m l.g l.k l.initial.second) × (length l.first ≡ length l.initial.first) × (length l.second ≡ length l.initial.second)
-
-abbrev pub decreases-loop-k : goal.decreases-loop-k
-decreases-loop-k l = l.h - l.k
+invariant-loop-k l = (l.first ≡ first_at l.m l.g l.k l.initial.first) × (l.second ≡ second_at l.m l.g l.k l.initial.second) × (length l.first ≡ length l.initial.first) × (length l.second ≡ length l.initial.second)

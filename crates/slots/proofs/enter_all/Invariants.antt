@@ -5,6 +5,3 @@ use Rattle.slots.proofs.enter_all.Given as goal
 
 abbrev pub invariant-loop-i : goal.invariant-loop-i
 invariant-loop-i l = EnteredTo l.vars l.nb (length l.initial.row) l.n l.row l.i
-
-abbrev pub decreases-loop-i : goal.decreases-loop-i
-decreases-loop-i l = l.n - l.i

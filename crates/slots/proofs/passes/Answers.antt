@@ -6,10 +6,11 @@ use Rattle.slots.proofs.passes.Goals as goal
 
 pub returns-then-other_hash : goal.returns-then-other_hash
 returns-then-other_hash c =
-    other-hash c.requires.1 c.args.r c.args.x.now c.requires.2 (sym c.other_hash.ensures ∙ c.if-other_hash.true)
+    c.if-other_hash.true
+    ∙ other-hash c.requires.1 c.args.r c.args.x.now c.requires.2 (sym c.other_hash.ensures ∙ c.if-other_hash.true)
 
-pub returns-then-r-eq-NO_NODE : goal.returns-then-r-eq-NO_NODE
-returns-then-r-eq-NO_NODE c = rw (eq-eqb _ _ c.if-r-eq-NO_NODE.true) refl
+pub returns-then-r-ne-NO_NODE : goal.returns-then-r-ne-NO_NODE
+returns-then-r-ne-NO_NODE c = rw (ne_eqb _ _ c.if-r-ne-NO_NODE.true) (ap not c.label_is.ensures)
 
-pub returns-else-r-eq-NO_NODE : goal.returns-else-r-eq-NO_NODE
-returns-else-r-eq-NO_NODE c = rw (ne_eqb _ _ c.if-r-eq-NO_NODE.false) (ap not c.label_is.ensures)
+pub returns-else-r-ne-NO_NODE : goal.returns-else-r-ne-NO_NODE
+returns-else-r-ne-NO_NODE c = rw (eq-eqb _ _ c.if-r-ne-NO_NODE.false) refl

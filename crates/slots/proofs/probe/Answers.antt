@@ -1,5 +1,7 @@
 use Prim.Native.Nat.{ℕ, ◌%◌}
-use mathlib.Core.Path.{ap}
+use mathlib.Core.Path.{◌≡◌, ap}
+use mathlib.Core.Bool.{true, false}
+use borrow.Author.Rules.{rules}
 use native.Mathlib.Nat.{mod-lt}
 use lib.ListN.{length}
 use Rattle.slots.proofs.RowLaws.{high_is, probe_start, probe-next, probe_found, probe-over}
@@ -21,11 +23,13 @@ next_slot-p-requires c = c.loop-d.invariant.small
 
 pub loop-d-preserved : goal.loop-d-preserved
 loop-d-preserved c =
-    probe-next c.loop-d.invariant c.loop-d-test.true c.passes.ensures c.if-passes.true c.next_slot-p.ensures.0 c.next_slot-p.ensures.1
+    let t : c.passes.result ≡ true = search rules in
+    probe-next c.loop-d.invariant c.loop-d-test.true c.passes.ensures t c.next_slot-p.ensures.0 c.next_slot-p.ensures.1
 
-pub returns-else-passes : goal.returns-else-passes
-returns-else-passes c =
-    (probe_found c.loop-d.invariant c.loop-d-test.true c.passes.ensures c.if-passes.false, c.loop-d.invariant.small)
+pub returns-then-not-passes : goal.returns-then-not-passes
+returns-then-not-passes c =
+    let t : c.passes.result ≡ false = search rules in
+    (probe_found c.loop-d.invariant c.loop-d-test.true c.passes.ensures t, c.loop-d.invariant.small)
 
 pub returns : goal.returns
 returns c = (probe-over c.loop-d.invariant c.loop-d-test.false, c.loop-d.invariant.small)

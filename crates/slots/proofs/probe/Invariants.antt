@@ -5,6 +5,3 @@ use Rattle.slots.proofs.probe.Given as goal
 
 abbrev pub invariant-loop-d : goal.invariant-loop-d
 invariant-loop-d l = Probed (length l.x) l.nb l.row l.x l.p l.d
-
-abbrev pub decreases-loop-d : goal.decreases-loop-d
-decreases-loop-d l = l.slots - l.d

@@ -4,6 +4,3 @@ use Rattle.states.proofs.close.Given as goal
 
 abbrev pub invariant-loop-e : goal.invariant-loop-e
 invariant-loop-e l = ClosedDown (entries_of l.x) l.initial.flags l.flags l.e
-
-abbrev pub decreases-loop-e : goal.decreases-loop-e
-decreases-loop-e l = l.e

@@ -1,4 +1,3 @@
-use Prim.Native.Nat.{◌-◌}
 use lib.ListN.{length}
 use Rattle.expressions.specs.Entries.{entries_of}
 use Rattle.states.proofs.Entries.{StatedTo}
@@ -6,6 +5,3 @@ use Rattle.states.proofs.fill_state.Given as goal
 
 abbrev pub invariant-loop-e : goal.invariant-loop-e
 invariant-loop-e l = StatedTo (entries_of l.x) l.s l.known l.row (length l.initial.row) l.e
-
-abbrev pub decreases-loop-e : goal.decreases-loop-e
-decreases-loop-e l = l.n - l.e

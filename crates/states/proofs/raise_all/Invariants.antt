@@ -1,4 +1,3 @@
-use Prim.Native.Nat.{◌-◌}
 use lib.ListN.{get_or}
 use Rattle.folder.proofs.FillLaws.{Filled}
 use Rattle.states.specs.Needed.{either_up}
@@ -6,6 +5,3 @@ use Rattle.states.proofs.raise_all.Given as goal
 
 abbrev pub invariant-loop-k : goal.invariant-loop-k
 invariant-loop-k l = Filled (λ i. either_up (get_or l.other i 0) (get_or l.initial.flags i 0)) l.n l.initial.flags l.flags l.k
-
-abbrev pub decreases-loop-k : goal.decreases-loop-k
-decreases-loop-k l = l.n - l.k

@@ -1,13 +1,7 @@
 use mathlib.Core.Path.{◌∙◌}
 use Rattle.expressions.specs.Entries.{entries_of}
-use Rattle.states.proofs.Widening.{too_many, few-enough}
+use Rattle.states.proofs.Widening.{too_many}
 use Rattle.states.proofs.widen.Goals as goal
-
-pub ways-ways-requires : goal.ways-ways-requires
-ways-ways-requires c = c.requires.readable.ranged
-
-pub widen_group-requires : goal.widen_group-requires
-widen_group-requires c = let m = c.mask_at-mask.ensures ∙ c.requires.masked.is _ c.requires.there in record { asked = c.requires; mask_value = m; ways_value = (few-enough (entries_of c.args.x.now) c.args.y.now c.args.vals.now c.args.masks.now c.args.state.now c.args.known.now _ _ c.requires m c.ways-ways.ensures c.if-ways-le-MOST_COMBINATIONS.true, c.if-ways-le-MOST_COMBINATIONS.true) }
 
 pub returns-else-ways-le-MOST_COMBINATIONS : goal.returns-else-ways-le-MOST_COMBINATIONS
 returns-else-ways-le-MOST_COMBINATIONS c =

@@ -19,4 +19,4 @@ loop-b-preserved c =
 
 pub returns : goal.returns
 returns c =
-    (weigh-over c.loop-b.invariant c.loop-b-test.false, omega (arith, c.loop-b.invariant.summed.within, c.loop-b.invariant.summed.small, c.requires.few))
+    (weigh-over c.loop-b.invariant (omega arith), omega (arith, c.loop-b.invariant.summed.within, c.loop-b.invariant.summed.small, c.requires.few))

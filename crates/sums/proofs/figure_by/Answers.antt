@@ -1,18 +1,12 @@
-use native.Mathlib.Omega.{arith}
-use mathlib.Core.Path.{refl}
+use mathlib.Core.Path.{refl, ◌∙◌}
 use borrow.Author.Tests.{eq-eqb, ne_eqb}
-use Rattle.graph.specs.Limits.{units}
 use Rattle.sums.specs.Tables.{figure_by}
-use Rattle.sums.proofs.EdgeLaws.{up_small}
+use Rattle.sums.proofs.EdgeLaws.{ceil-is}
 use Rattle.sums.proofs.figure_by.Goals as goal
-
-pub overflow_cast-result : goal.overflow_cast-result
-overflow_cast-result c =
-    omega (arith, c.up.ensures, up_small c.args.d c.args.best units c.requires.0 c.requires.2)
 
 pub returns-then-kind-eq-EXPANDED : goal.returns-then-kind-eq-EXPANDED
 unfolding figure_by
-returns-then-kind-eq-EXPANDED c = rw (eq-eqb _ _ c.if-kind-eq-EXPANDED.true) c.up.ensures
+returns-then-kind-eq-EXPANDED c = rw (eq-eqb _ _ c.if-kind-eq-EXPANDED.true) (c.div_ceil.ensures ∙ ceil-is c.args.best c.args.d c.requires.0)
 
 pub returns-then-kind-eq-COVERED : goal.returns-then-kind-eq-COVERED
 unfolding figure_by

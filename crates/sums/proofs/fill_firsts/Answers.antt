@@ -4,32 +4,14 @@ use Rattle.mdp.proofs.SumLoop.{sum-start, sum-next}
 use Rattle.folder.proofs.FillLaws.{fill_start, fill-next, fill-over}
 use Rattle.sums.proofs.fill_firsts.Goals as goal
 
+pub loop-c-init : goal.loop-c-init
+loop-c-init c = (fill_start _ _ _, sum-start _ _ _)
+
 pub loop-c-preserved : goal.loop-c-preserved
 loop-c-preserved c = (
   fill-next c.loop-c.invariant.0 c.loop-c-test.true (omega (arith, c.count_of-commands.ensures)) c.loop-c.invariant.1.total,
   sum-next c.loop-c.invariant.1 c.loop-c-test.true c.field-next.ensures.0 (le_of_lt c.field-next.ensures.1),
 )
 
-pub loop-c-init : goal.loop-c-init
-loop-c-init c = (fill_start _ _ _, sum-start _ _ _)
-
-pub offset_bounds-firsts-c : goal.offset_bounds-firsts-c
-offset_bounds-firsts-c c = omega arith
-
-pub bounds-firsts-c : goal.bounds-firsts-c
-bounds-firsts-c c = omega arith
-
-pub field-next-requires : goal.field-next-requires
-field-next-requires c = omega arith
-
-pub overflow_add-next : goal.overflow_add-next
-overflow_add-next c = omega arith
-
-pub overflow_add-c : goal.overflow_add-c
-overflow_add-c c = omega arith
-
-pub shape_of-firsts : goal.shape_of-firsts
-shape_of-firsts c = c.loop-c.invariant.0.long
-
 pub returns : goal.returns
-returns c = fill-over c.loop-c.invariant.0 c.loop-c-test.false c.count_of-commands.ensures
+returns c = fill-over c.loop-c.invariant.0 (omega arith) c.count_of-commands.ensures

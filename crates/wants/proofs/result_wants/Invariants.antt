@@ -1,4 +1,3 @@
-use Prim.Native.Nat.{◌-◌}
 use mathlib.Core.Path.{◌≡◌}
 use lib.ListN.{length}
 use Rattle.expressions.specs.Reading.{has_bit}
@@ -12,6 +11,3 @@ use Rattle.wants.proofs.result_wants.Given as goal
 abbrev pub invariant-loop-v : goal.invariant-loop-v
 invariant-loop-v l = Searched (λ i. given (has_bit (set_in l.m l.nb l.lead.node) i) (number_wants_in l.m l.nb l.n ((model_of l.m).assigned l.lead.record i))) (model_of l.m).variables l.v
     × LabelFlagged l.m l.nb l.n l.known × (length l.known ≡ length l.initial.known)
-
-abbrev pub decreases-loop-v : goal.decreases-loop-v
-decreases-loop-v l = l.vars - l.v

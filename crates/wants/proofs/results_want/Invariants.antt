@@ -1,4 +1,3 @@
-use Prim.Native.Nat.{◌-◌}
 use mathlib.Core.Path.{◌≡◌}
 use lib.ListN.{length}
 use Rattle.model.specs.Model.{model_of}
@@ -13,6 +12,3 @@ use Rattle.wants.proofs.results_want.Given as goal
 abbrev pub invariant-loop-c : goal.invariant-loop-c
 invariant-loop-c l = Searched (λ i. given (enabled (model_of l.m) (state_in l.m l.nb l.n) i) (branches_in l.m l.nb l.n i)) (model_of l.m).commands l.c
     × Stepped l.m l.nb l.n l.c l.record l.node × LabelFlagged l.m l.nb l.n l.known × (length l.known ≡ length l.initial.known)
-
-abbrev pub decreases-loop-c : goal.decreases-loop-c
-decreases-loop-c l = l.commands - l.c

@@ -1,7 +1,5 @@
-use Rattle.folder.proofs.Signed.{back_fits}
-use Rattle.whole.specs.Order.{eq_z}
+use Rattle.whole.proofs.Order.{equal-bits}
 use Rattle.whole.proofs.equal.Goals as goal
 
 pub returns : goal.returns
-unfolding eq_z
-returns c = cc (back_fits c.ranges.a, back_fits c.ranges.b)
+returns c = equal-bits c.args.a c.args.b c.ranges.a c.ranges.b

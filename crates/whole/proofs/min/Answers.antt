@@ -1,18 +1,8 @@
-use mathlib.Core.Path.{◌≡◌}
-use mathlib.Core.Bool.{true, false}
-use lib.Signed.{le_z}
-use Rattle.folder.proofs.Signed.{back_fits}
-use Rattle.whole.specs.Order.{min_z}
+use mathlib.Core.Path.{ap₂, ◌∙◌}
+use Rattle.std.specs.Int.{int_min}
+use Rattle.folder.proofs.Signed.{back, back_fits}
+use Rattle.whole.proofs.Order.{min-is}
 use Rattle.whole.proofs.min.Goals as goal
 
-pub returns-then-at_most : goal.returns-then-at_most
-unfolding min_z
-returns-then-at_most c =
-    let h : le_z c.args.a c.args.b ≡ true = cc (back_fits c.ranges.a, back_fits c.ranges.b) in
-    rw h (back_fits c.ranges.a)
-
-pub returns-else-at_most : goal.returns-else-at_most
-unfolding min_z
-returns-else-at_most c =
-    let h : le_z c.args.a c.args.b ≡ false = cc (back_fits c.ranges.a, back_fits c.ranges.b) in
-    rw h (back_fits c.ranges.b)
+pub returns : goal.returns
+returns c = back c.min.type_inv ∙ c.min.ensures.value ∙ ap₂ int_min (back_fits c.ranges.a) (back_fits c.ranges.b) ∙ min-is c.args.a c.args.b

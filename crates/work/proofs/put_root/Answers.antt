@@ -1,5 +1,5 @@
 use native.Mathlib.Omega.{arith}
-use Rattle.work.proofs.RootLaws.{begin-start, begin-next, begin-over}
+use Rattle.work.proofs.RootLaws.{begin-start, begin-next}
 use Rattle.work.proofs.put_root.Goals as goal
 
 pub put_field-requires : goal.put_field-requires
@@ -14,6 +14,3 @@ loop-f-init c = begin-start _ _ _
 
 pub shape_of-nb : goal.shape_of-nb
 shape_of-nb c = c.loop-f.invariant.stays.long
-
-pub returns : goal.returns
-returns c = begin-over _ _ c.loop-f.invariant c.loop-f-test.false

@@ -1,4 +1,0 @@
-use Rattle.graph.proofs.node_count.Goals as goal
-
-pub returns : goal.returns
-returns c = cc

@@ -1,6 +1,0 @@
-use Rattle.labels.specs.Agree.{agrees_at}
-use Rattle.labels.proofs.agrees_at.Goals as goal
-
-pub returns : goal.returns
-unfolding agrees_at
-returns c = cc

@@ -1,4 +1,0 @@
-use Rattle.labels.proofs.node_field.Goals as goal
-
-pub returns : goal.returns
-returns c = (cc, c.field.ensures.1)

@@ -1,6 +1,0 @@
-use Rattle.std.proofs.Common.{◌-◌}
-use Rattle.solver.specs.Limits.{most_variables}
-use Rattle.solver.proofs.same_state.Given as goal
-
-abbrev pub decreases-loop-i : goal.decreases-loop-i
-decreases-loop-i l = most_variables - l.i
