@@ -28,7 +28,7 @@ pub const HIGHEST: i64 = 1000000;
 // The tracked set that has every variable.
 pub const ALL_TRACKED: usize = (1 << MOST_VARIABLES) - 1;
 
-#[derive(Clone, Copy)]
+#[derive(Clone, Copy, Debug, PartialEq, Eq)]
 pub enum Arith {
     Add,
     Subtract,
@@ -37,14 +37,14 @@ pub enum Arith {
     Larger,
 }
 
-#[derive(Clone, Copy)]
+#[derive(Clone, Copy, Debug, PartialEq, Eq)]
 pub enum Relation {
     Equal,
     Less,
     AtMost,
 }
 
-#[derive(Clone, Copy)]
+#[derive(Clone, Copy, Debug, PartialEq, Eq)]
 pub enum Join {
     And,
     Or,
@@ -71,7 +71,7 @@ pub enum TruthForm {
     NoTruth,
 }
 
-#[derive(Clone, Copy)]
+#[derive(Clone, Copy, Debug, PartialEq, Eq)]
 pub struct Range {
     pub low: i64,
     pub high: i64,
@@ -144,28 +144,26 @@ pub fn truth_form(x: &[u8], e: usize) -> TruthForm
 }
 
 // Its sort.
+#[tactic(auto, unfolding(crate::specs::Entries::is_number))]
 pub fn is_number(x: &[u8], e: usize) -> bool
     requires { e ≤ field_limit }
     ensures { result ≡ is_number (entries_of x.now) e }
 {
-    if e < folder::count_of(8, x) {
-        folder::field_in(8, x, e, 0) <= 7
-    } else {
-        false
-    }
+    e < folder::count_of(8, x) && folder::field_in(8, x, e, 0) <= 7
 }
 
+#[tactic(auto, unfolding(crate::specs::Entries::is_truth))]
 pub fn is_truth(x: &[u8], e: usize) -> bool
     requires { e ≤ field_limit }
     ensures { result ≡ is_truth (entries_of x.now) e }
 {
-    let op = folder::field(8, x, e, 0);
-    (e < folder::count_of(8, x)) & ((8 <= op) & (op <= 14))
+    e < folder::count_of(8, x) && matches!(folder::field_in(8, x, e, 0), 8..=14)
 }
 
 // Variable i is in the set t.
+#[tactic(auto, unfolding(crate::specs::Reading::has_bit))]
 pub fn has_bit(t: usize, i: usize) -> bool
     ensures { result ≡ has_bit t i }
 {
-    if i < 64 { (t >> i) % 2 == 1 } else { false }
+    i < 64 && (t >> i) % 2 == 1
 }

@@ -5,6 +5,5 @@ pub mod TabLaws
 pub mod FillLaws
 pub mod ListLaws
 pub mod TableLaws
-pub mod RuleLaws
 pub mod ContentsLaws
 pub mod Signed

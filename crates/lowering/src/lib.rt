@@ -11,12 +11,13 @@ ghost use Rattle.model.specs.Model.{model_of};
 ghost use Rattle.graph.specs.Limits.{units};
 ghost use Rattle.graph.specs.Simulation.{node_count, simulation_of};
 ghost use Rattle.graph.specs.Valid.{Valid};
-ghost use Rattle.sums.specs.Tables.{Tables, Round};
+ghost use Rattle.sums.specs.Tables.{Round};
 ghost use Rattle.building.specs.Values.{rounds_of};
 ghost use Rattle.lowering.specs.Sweeps.{nodes_of, swept_row, still_row, Starts};
 
 use graph::EXPANDED;
 use model::{MOST_COMMANDS, MOST_RECORDS};
+use sums::WeightedGraph;
 
 // What a node is set to, from the greatest sum over its edges and the value of its source.
 fn value_by(kind: usize, best: usize, d: usize, taken: u32) -> u32
@@ -31,34 +32,23 @@ fn value_by(kind: usize, best: usize, d: usize, taken: u32) -> u32
 }
 
 // One round. The answer: no value has changed.
-fn sweep(
-    m: &[u8],
-    g: &[u8],
-    weights: &[usize],
-    firsts: &[usize],
-    begins: &[u32],
-    row: &mut [u32],
-) -> bool
-    requires valid { Valid m.now g.now }
-    requires tables { Tables (model_of m.now) weights.now firsts.now }
-    requires starts { Starts m.now g.now begins.now }
-    requires round { Round (nodes_of m.now g.now) row.old }
-    ensures value { result ≡ still_row m.now g.now row.old }
-    ensures row_after { row.new ≡ swept_row m.now g.now row.old }
+fn sweep(s: &WeightedGraph, begins: &[u32], row: &mut [u32]) -> bool
+    requires starts { Starts s.now.model s.now.graph begins.now }
+    requires round { Round (nodes_of s.now.model s.now.graph) row.old }
+    ensures value { result ≡ still_row s.now.model s.now.graph row.old }
+    ensures row_after { row.new ≡ swept_row s.now.model s.now.graph row.old }
 {
-    let size = graph::node_size(graph::variable_count(m));
-    let nodes = graph::node_count(m, g);
-    let d = sums::total_of(m);
-    let cs = folder::body(m, 3);
-    let nb = folder::body(g, 0);
-    let eb = folder::body(g, 1);
+    let size = s.node_size();
+    let nodes = s.node_count();
+    let d = s.total();
+    let nb = s.nodes();
     let mut same = true;
     for n in 0..nodes {
         let kind = folder::field(size, nb, n, 0);
         let cover = folder::field(size, nb, n, 1);
         let count = folder::field(size, nb, n, 4);
         let at = begins::begin_of(begins, n);
-        let best = sums::best_of(cs, eb, weights, firsts, row, at, count);
+        let best = s.best(row, at, count);
         let from = sums::source_of(kind, cover, n);
         let value = value_by(kind, best.greatest, d, row[from]);
         same &= row[n] == value;
@@ -68,25 +58,15 @@ fn sweep(
 }
 
 // S everywhere, then a round for each of `rounds`, or until one changes nothing. Then every later one is the same.
-fn sweeps(
-    m: &[u8],
-    g: &[u8],
-    weights: &[usize],
-    firsts: &[usize],
-    begins: &[u32],
-    rounds: usize,
-    row: &mut [u32],
-)
-    requires valid { Valid m.now g.now }
-    requires tables { Tables (model_of m.now) weights.now firsts.now }
-    requires starts { Starts m.now g.now begins.now }
-    requires g_in_bounds { nodes_of m.now g.now ≤ length row.old }
-    ensures { row.new ≡ fill (nodes_of m.now g.now) (rounds_of (model_of m.now) (simulation_of (model_of m.now) g.now) rounds) row.old }
+fn sweeps(s: &WeightedGraph, begins: &[u32], rounds: usize, row: &mut [u32])
+    requires starts { Starts s.now.model s.now.graph begins.now }
+    requires g_in_bounds { nodes_of s.now.model s.now.graph ≤ length row.old }
+    ensures { row.new ≡ fill (nodes_of s.now.model s.now.graph) (rounds_of (model_of s.now.model) (simulation_of (model_of s.now.model) s.now.graph) rounds) row.old }
 {
-    let nodes = graph::node_count(m, g);
+    let nodes = s.node_count();
     folder::fill(row, nodes, |_| sums::UNITS);
     for _ in 0..rounds {
-        if sweep(m, g, weights, firsts, begins, row) {
+        if sweep(s, begins, row) {
             return;
         }
     }
@@ -103,5 +83,6 @@ pub fn lower(m: &[u8], g: &[u8], begins: &[u32], rounds: usize, row: &mut [u32])
     let mut weights = [0usize; MOST_RECORDS];
     let mut firsts = [0usize; MOST_COMMANDS];
     sums::fill_tables(m, &mut weights, &mut firsts);
-    sweeps(m, g, &weights, &firsts, begins, rounds, row);
+    let s = WeightedGraph::of(m, g, &weights, &firsts);
+    sweeps(&s, begins, rounds, row);
 }

@@ -1,11 +1,11 @@
--- Row 10, by the rows that hold the ranges of the entries.
+-- Row 10, by the row that holds the ranges of the entries.
 -- Assumes nothing.
 use Prim.Native.Nat.{ℕ, ◌<◌}
 use mathlib.Core.Path.{◌≡◌, sym, ◌∙◌}
-use mathlib.Core.Bool.{Bool, true, false}
+use mathlib.Core.Bool.{Bool, true}
 use mathlib.Core.List.{List}
 use lib.ListN.{get_or}
-use lib.IntN.{ℤ, pos}
+use lib.IntN.{pos}
 use Rattle.folder.specs.Contents.{count_of}
 use Rattle.expressions.specs.Entries.{entries_of, is_number}
 use Rattle.expressions.specs.Ranges.{span, bound_in, inside}
@@ -19,11 +19,7 @@ pub number-there : (x : List ℕ) (e : ℕ) {t : Bool} → t ≡ is_number (entr
 number-there x e q h = ((number-decided (entries_of x) e).yes (sym q ∙ h)).there
 
 module _ (x y : List ℕ) (e v : ℕ) {t : Bool} (q : t ≡ is_number (entries_of x) e) where
-  -- The code's ends a to b are those that the rows hold, and l to h are the variable's.
-  pub stays : t ≡ true → {lows highs : List ℤ} → Held x y lows highs → {to : Range} → to ≡ bound_in y v
-      → {a b l h : ℤ} → a ≡ get_or lows e (pos 0) → b ≡ get_or highs e (pos 0) → l ≡ to.low → h ≡ to.high
-      → {s : Bool} → s ≡ inside (span a b) (span l h) → s ≡ stays_in (entries_of x) (bound_in y) e v
-  stays n rows p ea eb el eh i = i ∙ rw (ea, eb, el, eh, rows.is e (number-there x e q n), p, sym q ∙ n)
-
-  pub strays : t ≡ false → false ≡ stays_in (entries_of x) (bound_in y) e v
-  strays h = rw (sym q ∙ h)
+  -- The code's range is the one that the row holds, and `to` is the variable's.
+  pub stays : t ≡ true → {row : List Range} → Held x y row → {to : Range} → to ≡ bound_in y v
+      → {s : Bool} → s ≡ inside (get_or row e (span (pos 0) (pos 0))) to → s ≡ stays_in (entries_of x) (bound_in y) e v
+  stays n held p i = i ∙ rw (held.is e (number-there x e q n), p, sym q ∙ n)

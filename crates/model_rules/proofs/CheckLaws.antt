@@ -9,8 +9,9 @@ use native.Mathlib.Omega.{arith}
 use borrow.Author.Tests.{eqb-true}
 use lib.Dec.{eqb}
 use lib.ListN.{length}
-use lib.IntN.{ℤ, pos}
+use lib.IntN.{pos}
 use Rattle.folder.specs.Scan.{first_bad}
+use Rattle.folder.specs.Tab.{fill}
 use Rattle.folder.specs.Contents.{count_of, field}
 use Rattle.mdp.specs.Sums.{sum}
 use Rattle.folder.specs.Table.{outcome, Outcome}
@@ -23,7 +24,8 @@ use Rattle.expressions.specs.Ranges.{bound_in}
 use Rattle.expressions.specs.Rules.{entry_fits, range_fits}
 use Rattle.expressions.proofs.Decided.{entry-decided}
 use Rattle.expressions.proofs.Levels.{lower}
-use Rattle.ranges.specs.Settled.{Ordered, Based, low_ends, high_ends}
+use Rattle.expressions.specs.declared.Range.{Range}
+use Rattle.ranges.specs.Settled.{Ordered, Based, range_in}
 use Rattle.expressions.proofs.Interval.{bound-here, bound-past}
 use Rattle.ranges.proofs.RowLaws.{settled}
 use Rattle.model_rules.specs.Bodies.{Held, model_held}
@@ -67,11 +69,10 @@ module _ (b : Bodies) where
 -- What row 10 needs of row 6.
 module _ (x y : List ℕ) where
   pub settled-all : {p : ℕ} → p ≡ first_bad (range_fits (entries_of x) (bound_in y)) (count_of 8 x) → ((i : ℕ) → i < count_of 8 x → range_fits (entries_of x) (bound_in y) i ≡ true)
-      → {lows highs : List ℤ} (lows₀ highs₀ : List ℤ) → lows ≡ low_ends x y p lows₀ → highs ≡ high_ends x y p highs₀ → count_of 8 x ≤ length lows₀ → count_of 8 x ≤ length highs₀
-      → Held x y lows highs
-  settled-all {p} e h {lows} {highs} lows₀ highs₀ a b c d =
+      → {row : List Range} (row₀ : List Range) → row ≡ fill p (range_in x y) row₀ → count_of 8 x ≤ length row₀ → Held x y row
+  settled-all {p} e h {row} row₀ a c =
       let w : p ≡ count_of 8 x = e ∙ all_found _ (count_of 8 x) h in
-      rw (← w) (settled x y p lows highs lows₀ highs₀ a b (omega arith) (omega arith))
+      rw (← w) (settled x y p row row₀ a (omega arith))
 
 -- The folder's outcome, and then the rest.
 module _ (m : List ℕ) {o : Outcome} (e : o ≡ outcome (folder_rows m)) where

@@ -20,7 +20,7 @@ ghost use Rattle.model_rules.specs.Bodies.{Held, model_held};
 
 mod parts;
 
-use expressions::MOST_EXPRESSIONS;
+use expressions::{MOST_EXPRESSIONS, Range};
 use folder::Refusal;
 use model::{LEAST_BOUND, MOST_BOUND, MOST_BRANCHES};
 use parts::Bodies;
@@ -80,49 +80,38 @@ fn records_add_up(b: &Bodies<'_>, records: usize) -> bool
     records == model::first_record(b.commands, folder::count_of(4, b.commands))
 }
 
-// Entry e is a number, and its range, which the rows hold, stays in that of variable v.
-fn stays_in(b: &Bodies<'_>, lows: &[i64], highs: &[i64], e: usize, v: usize) -> bool
-    requires held { Held b.now.expressions.now b.now.variables.now lows.now highs.now }
+// Entry e is a number, and its range, which the row holds, stays in that of variable v.
+fn stays_in(b: &Bodies<'_>, row: &[Range], e: usize, v: usize) -> bool
+    requires held { Held b.now.expressions.now b.now.variables.now row.now }
     requires e_le_field_limit { (e ≤ field_limit) × (v ≤ field_limit) }
     ensures { result ≡ stays_in (entries_of b.now.expressions.now) (bound_in b.now.variables.now) e v }
 {
-    if expressions::is_number(b.expressions, e) {
-        let to = ranges::bound_at(b.variables, v);
-        ranges::is_inside(lows[e], highs[e], to.low, to.high)
-    } else {
-        false
-    }
+    expressions::is_number(b.expressions, e)
+        && ranges::is_inside(row[e], ranges::bound_at(b.variables, v))
 }
 
 // What branch record r assigns to variable v fits.
 #[tactic(auto, unfolding(model::specs::Rules::assigned_fits, model::specs::Model::bound, expressions::specs::Ranges::bound_in))]
-fn assigned_fits(
-    b: &Bodies<'_>,
-    lows: &[i64],
-    highs: &[i64],
-    size: usize,
-    r: usize,
-    v: usize,
-) -> bool
-    requires held { Held b.now.expressions.now b.now.variables.now lows.now highs.now }
+fn assigned_fits(b: &Bodies<'_>, row: &[Range], size: usize, r: usize, v: usize) -> bool
+    requires held { Held b.now.expressions.now b.now.variables.now row.now }
     requires size_is { size ≡ branch_size (count_of 6 b.now.variables.now) }
     requires few { (r ≤ field_limit) × (v ≤ most_variables) }
     ensures { result ≡ assigned_fits (model_held b.now) r v }
 {
-    stays_in(b, lows, highs, folder::field(size, b.branches, r, 1 + v), v)
+    stays_in(b, row, folder::field(size, b.branches, r, 1 + v), v)
 }
 
 // Row 10, branch record r.
 #[tactic(auto, unfolding(model::specs::Rules::branch_fits))]
-fn branch_fits(b: &Bodies<'_>, lows: &[i64], highs: &[i64], r: usize) -> bool
-    requires held { Held b.now.expressions.now b.now.variables.now lows.now highs.now }
+fn branch_fits(b: &Bodies<'_>, row: &[Range], r: usize) -> bool
+    requires held { Held b.now.expressions.now b.now.variables.now row.now }
     requires few { r ≤ field_limit }
     ensures { result ≡ branch_fits (model_held b.now) r }
 {
     let n = folder::count_of(6, b.variables);
     let size = 2 + 2 * n;
     let weight = folder::field(size, b.branches, r, 0);
-    (weight != 0) & folder::all(n, |v| assigned_fits(b, lows, highs, size, r, v))
+    (weight != 0) & folder::all(n, |v| assigned_fits(b, row, size, r, v))
 }
 
 // The sum of the weights of n branch records from `first` on.
@@ -156,10 +145,10 @@ fn first_bad_total(b: &Bodies<'_>, n: usize) -> usize
     n
 }
 
-// Rows 7 to 11. The rows `lows` and `highs` hold the ranges of the entries.
+// Rows 7 to 11. The row `row` holds the ranges of the entries.
 #[tactic(auto, unfolding(folder::specs::Table::outcome))]
-fn check_commands(b: &Bodies<'_>, lows: &[i64], highs: &[i64]) -> Result<(), Refusal>
-    requires held { Held b.now.expressions.now b.now.variables.now lows.now highs.now }
+fn check_commands(b: &Bodies<'_>, row: &[Range]) -> Result<(), Refusal>
+    requires held { Held b.now.expressions.now b.now.variables.now row.now }
     ensures { result ≡ outcome (drop 3 (content_rows (model_held b.now))) }
 {
     let commands = folder::count_of(4, b.commands);
@@ -167,7 +156,7 @@ fn check_commands(b: &Bodies<'_>, lows: &[i64], highs: &[i64]) -> Result<(), Ref
     folder::check_each(7, 2, |p| terms_fit(b, p))?;
     folder::check_each(8, commands, |c| command_fits(b, c))?;
     folder::check(9, 0, records_add_up(b, records))?;
-    folder::check_each(10, records, |r| branch_fits(b, lows, highs, r))?;
+    folder::check_each(10, records, |r| branch_fits(b, row, r))?;
     folder::check_scan(11, commands, first_bad_total(b, commands))
 }
 
@@ -184,11 +173,10 @@ fn check_contents(b: &Bodies<'_>) -> Result<(), Refusal>
         entries,
         entries::first_bad_entry(b.expressions, variables),
     )?;
-    let mut lows = [0i64; MOST_EXPRESSIONS];
-    let mut highs = [0i64; MOST_EXPRESSIONS];
-    let ranged = ranges::fill_ranges(b.expressions, b.variables, &mut lows, &mut highs);
+    let mut row = [Range { low: 0, high: 0 }; MOST_EXPRESSIONS];
+    let ranged = ranges::fill_ranges(b.expressions, b.variables, &mut row);
     folder::check_scan(6, entries, ranged)?;
-    check_commands(b, &lows, &highs)
+    check_commands(b, &row)
 }
 
 // The model check: acceptance, or the first refusal of document 01's table.

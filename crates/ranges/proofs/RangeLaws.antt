@@ -67,13 +67,13 @@ module _ (x y : List ℕ) (based : Based x y) where
 
 -- ---- from the ranges of lower entries
 
-module _ {x y : List ℕ} {lows highs : List ℤ} {settled e : ℕ} (ranged : Ranged x y lows highs settled e) where
-  pub down : {t p : ℕ} → e ≡ t → p < e → (p < t) × Ranged x y lows highs settled p
+module _ {x y : List ℕ} {row : List Range} {settled e : ℕ} (ranged : Ranged x y row settled e) where
+  pub down : {t p : ℕ} → e ≡ t → p < e → (p < t) × Ranged x y row settled p
   down {t} {p} q h = (
     subst (λ (k : ℕ). p < k) q h,
     record {
       based = ranged.based;
-      rows = ranged.rows;
+      held = ranged.held;
       inside = λ i l. ranged.inside i (lt_trans l h);
       small = le_trans (le_of_lt h) ranged.small;
     },

@@ -1,9 +1,8 @@
--- What the range of an entry is worked out from: ranges that are in order and small, and rows that hold those of lower entries.
+-- What the range of an entry is worked out from: ranges that are in order and small, and a row that holds those of lower entries.
 -- Assumes nothing.
-use Rattle.std.specs.Prelude.{ℕ, ◌<◌, ◌≤◌, ◌≡◌, List, ◌++◌, length, get_or, drop, ℤ, pos, ◌≤ℤ◌}
+use Rattle.std.specs.Prelude.{ℕ, ◌<◌, ◌≤◌, ◌≡◌, List, length, get_or, pos, ◌≤ℤ◌}
 use Rattle.std.specs.Int.Signed.{mag}
 use Rattle.folder.specs.Fields.{field_limit}
-use Rattle.folder.specs.Tab.{tab}
 use Rattle.whole.specs.Limits.{farthest}
 use Rattle.expressions.specs.Entries.{entries_of}
 use Rattle.expressions.specs.Parts.{Lower}
@@ -30,22 +29,14 @@ module _ (x y : List ℕ) where
     pub lower : Lower (entries_of x)
     pub ordered : (v : ℕ) → Ordered (bound_in y v)
 
-  -- A row whose first n places hold the low ends, or the high ends, of the first n entries; the others are d's.
-  abbrev pub low_ends : ℕ → List ℤ → List ℤ
-  low_ends n d = tab n (λ e. (range_in e).low) ++ drop n d
+  -- The row holds the ranges of the first n entries.
+  pub record Settled (row : List Range) (n : ℕ) : Type 0 where
+    pub long : n ≤ length row
+    pub is : (i : ℕ) → i < n → get_or row i (span (pos 0) (pos 0)) ≡ range_in i
 
-  abbrev pub high_ends : ℕ → List ℤ → List ℤ
-  high_ends n d = tab n (λ e. (range_in e).high) ++ drop n d
-
-  -- The two rows hold the ranges of the first n entries.
-  pub record Settled (lows highs : List ℤ) (n : ℕ) : Type 0 where
-    pub low-row : n ≤ length lows
-    pub high-row : n ≤ length highs
-    pub is : (i : ℕ) → i < n → span (get_or lows i (pos 0)) (get_or highs i (pos 0)) ≡ range_in i
-
-  -- What the range of entry e asks: the rows, and that the ranges of lower entries stay in the limits.
-  pub record Ranged (lows highs : List ℤ) (settled e : ℕ) : Type 0 where
+  -- What the range of entry e asks: the row, and that the ranges of lower entries stay in the limits.
+  pub record Ranged (row : List Range) (settled e : ℕ) : Type 0 where
     pub based : Based
-    pub rows : Settled lows highs settled
+    pub held : Settled row settled
     pub inside : (i : ℕ) → i < e → Inside (range_in i) limits
     pub small : e ≤ field_limit

@@ -2,17 +2,17 @@
 
 #![tactic(auto)]
 
-ghost use Rattle.std.specs.Prelude.{◌≡◌, ◌<◌, ◌≤◌, length, get_or, pos};
+ghost use Rattle.std.specs.Prelude.{◌≡◌, ◌<◌, ◌≤◌, length};
 ghost use Rattle.folder.specs.Fields.{field_limit};
 ghost use Rattle.folder.specs.Contents.{count_of};
 ghost use Rattle.folder.specs.Scan.{first_bad};
-ghost use Rattle.folder.specs.Tab.{tab};
+ghost use Rattle.folder.specs.Tab.{tab, fill};
 ghost use Rattle.expressions.specs.Limits.{most_expressions};
 ghost use Rattle.expressions.specs.Entries.{entries_of};
-ghost use Rattle.expressions.specs.Ranges.{span, product, arith_r, hull, bound_in, range_of, inside, limits};
+ghost use Rattle.expressions.specs.Ranges.{product, arith_r, hull, bound_in, range_of, inside, limits};
 ghost use Rattle.expressions.specs.Rules.{range_fits};
 ghost use Rattle.ranges.specs.Products.{end_products, end_product};
-ghost use Rattle.ranges.specs.Settled.{Near, Based, Ranged, low_ends, high_ends};
+ghost use Rattle.ranges.specs.Settled.{Near, Based, Ranged};
 
 use expressions::{Arith, HIGHEST, LOWEST, NumberForm, Range};
 
@@ -34,10 +34,12 @@ pub fn bound_at(y: &[u8], v: usize) -> Range
     }
 }
 
-pub fn is_inside(low: i64, high: i64, to_low: i64, to_high: i64) -> bool
-    ensures { result ≡ inside (span low high) (span to_low to_high) }
+// a stays in b.
+#[tactic(auto, unfolding(expressions::specs::Ranges::inside))]
+pub fn is_inside(a: Range, b: Range) -> bool
+    ensures { result ≡ inside a b }
 {
-    whole::at_most(to_low, low) & whole::at_most(high, to_high)
+    whole::at_most(b.low, a.low) & whole::at_most(a.high, b.high)
 }
 
 // From the lower of the low ends to the higher of the high ends.
@@ -108,27 +110,22 @@ fn arith_range(k: Arith, a: Range, b: Range) -> Range
 fn in_limits(a: Range) -> bool
     ensures { result ≡ inside a limits }
 {
-    is_inside(a.low, a.high, LOWEST, HIGHEST)
+    is_inside(
+        a,
+        Range {
+            low: LOWEST,
+            high: HIGHEST,
+        },
+    )
 }
 
-// The range that the rows hold at i.
-fn range_in(lows: &[i64], highs: &[i64], i: usize) -> Range
-    requires { (i < length lows.now) × (i < length highs.now) }
-    ensures { result ≡ span (get_or lows.now i (pos 0)) (get_or highs.now i (pos 0)) }
-{
-    Range {
-        low: lows[i],
-        high: highs[i],
-    }
-}
-
-// The range of entry e: out of the rows where they hold it, else from those of its parts, which are lower.
-pub fn range_of(x: &[u8], y: &[u8], lows: &[i64], highs: &[i64], settled: usize, e: usize) -> Range
-    requires { Ranged x.now y.now lows.now highs.now settled e }
+// The range of entry e: out of the row where it holds it, else from those of its parts, which are lower.
+pub fn range_of(x: &[u8], y: &[u8], row: &[Range], settled: usize, e: usize) -> Range
+    requires { Ranged x.now y.now row.now settled e }
     ensures { result ≡ range_of (entries_of x.now) (bound_in y.now) e }
 {
     if e < settled {
-        return range_in(lows, highs, e);
+        return row[e];
     }
     let f = expressions::number_form(x, e);
     match f {
@@ -137,38 +134,36 @@ pub fn range_of(x: &[u8], y: &[u8], lows: &[i64], highs: &[i64], settled: usize,
         NumberForm::Binary(k, p, q) => {
             arith_range(
                 k,
-                range_of(x, y, lows, highs, settled, p),
-                range_of(x, y, lows, highs, settled, q),
+                range_of(x, y, row, settled, p),
+                range_of(x, y, row, settled, q),
             )
         }
         NumberForm::If(_, p, q) => {
             hull_of(
-                range_of(x, y, lows, highs, settled, p),
-                range_of(x, y, lows, highs, settled, q),
+                range_of(x, y, row, settled, p),
+                range_of(x, y, row, settled, q),
             )
         }
         NumberForm::NoNumber => Range { low: 0, high: 0 },
     }
 }
 
-// Row 6: the lowest entry whose range leaves the limits, or their count. The ranges of the entries before it go into the rows, so
+// Row 6: the lowest entry whose range leaves the limits, or their count. The ranges of the entries before it go into the row, so
 // that each is worked out once.
-pub fn fill_ranges(x: &[u8], y: &[u8], lows: &mut [i64], highs: &mut [i64]) -> usize
+pub fn fill_ranges(x: &[u8], y: &[u8], row: &mut [Range]) -> usize
     requires based { Based x.now y.now }
     requires x_bound { count_of 8 x.now ≤ most_expressions }
-    requires most_expressions_in_bounds { (most_expressions ≤ length lows.old) × (most_expressions ≤ length highs.old) }
+    requires most_expressions_in_bounds { most_expressions ≤ length row.old }
     ensures value { result ≡ first_bad (range_fits (entries_of x.now) (bound_in y.now)) (count_of 8 x.now) }
-    ensures lows_after { lows.new ≡ low_ends x.now y.now result lows.old }
-    ensures highs_after { highs.new ≡ high_ends x.now y.now result highs.old }
+    ensures row_after { row.new ≡ fill result (range_of (entries_of x.now) (bound_in y.now)) row.old }
 {
     let n = folder::count_of(8, x);
     for e in 0..n {
-        let r = range_of(x, y, lows, highs, e, e);
+        let r = range_of(x, y, row, e, e);
         if !in_limits(r) {
             return e;
         }
-        lows[e] = r.low;
-        highs[e] = r.high;
+        row[e] = r;
     }
     n
 }

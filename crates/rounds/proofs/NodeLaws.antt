@@ -1,19 +1,16 @@
 -- A node of an accepted graph, as the code reads it: its figure is the definition's.
 -- Assumes nothing.
 use Prim.Native.Nat.{ℕ, ◌<◌}
-use native.Mathlib.Omega.{arith}
-use mathlib.Core.Path.{◌≡◌, refl, sym, ◌∙◌}
+use mathlib.Core.Path.{◌≡◌, sym, ◌∙◌}
 use mathlib.Core.List.{List}
-use Rattle.folder.specs.Contents.{body, count_of, field}
-use Rattle.model.specs.Layout.{variable_count}
+use Rattle.folder.specs.Contents.{field}
 use Rattle.model.specs.Model.{Model, model_of}
-use Rattle.model.proofs.Limits.{limits}
-use Rattle.graph.specs.Simulation.{Simulation, node_size, simulation_of}
+use Rattle.graph.specs.Simulation.{Simulation, simulation_of}
 use Rattle.graph.specs.Valid.{Valid}
 use Rattle.graph.specs.Walks.{starts_at}
 use Rattle.sums.specs.Edges.{best_of}
 use Rattle.sums.specs.Tables.{Tables, figure_by}
-use Rattle.rounds.specs.Rounds.{own_next, nodes_of, Shaped}
+use Rattle.rounds.specs.Rounds.{own_next}
 use Rattle.sums.proofs.ModelLaws.{best-is}
 use Rattle.sums.proofs.NodeLaws.{Parts}
 use Rattle.rounds.proofs.RoundLaws.{own-next}
@@ -24,11 +21,6 @@ module _ {m g : List ℕ} (A : Valid m g) where
 
   abbrev G : Simulation
   G = simulation_of M g
-
-  pub shaped : {size nodes : ℕ} {nb : List ℕ} → size ≡ node_size (variable_count m) → nb ≡ body g 0 → nodes ≡ count_of size nb → Shaped m g size nodes
-  shaped {nodes = nodes} p q e =
-      let k : nodes ≡ nodes_of m g = e ∙ rw (p, q) refl in
-      record { size_is = p; nodes-are = k; small = omega (arith, (limits A.model.folder).variables); few = omega (arith, k, A.rows.folder.few) }
 
   module _ {size d : ℕ} {cs nb eb : List ℕ} (P : Parts m g size d cs nb eb) {weights firsts : List ℕ} (T : Tables M weights firsts) where
     module _ {n at count : ℕ} (l : n < G.nodes) (a : at ≡ starts_at M g n) (q : count ≡ field size nb n 4) where

@@ -1,16 +1,14 @@
 -- One round from the row of the last one, in the words of mdp's rounds; and what the rows hold after h of them.
 -- Assumes nothing.
-use Rattle.std.specs.Prelude.{ℕ, ◌≤◌, ◌≡◌, Bool, List, get_or, eqb, Ok}
+use Rattle.std.specs.Prelude.{ℕ, Bool, List, get_or, eqb, Ok}
 use Rattle.mdp.specs.Graph.{start, again, shared, up, figure}
-use Rattle.folder.specs.Fields.{field_limit}
 use Rattle.folder.specs.Pick.{pick}
 use Rattle.folder.specs.Tab.{fill}
 use Rattle.folder.specs.Scan.{all}
-use Rattle.model.specs.Layout.{variable_count}
 use Rattle.model.specs.Model.{Model, model_of}
 use Rattle.model.specs.Chances.{mdp}
-use Rattle.graph.specs.Limits.{units, most_nodes}
-use Rattle.graph.specs.Simulation.{Simulation, graph, kind_of, node_size, node_count, simulation_of}
+use Rattle.graph.specs.Limits.{units}
+use Rattle.graph.specs.Simulation.{Simulation, graph, kind_of, node_count, simulation_of}
 use Rattle.graph.specs.Figures.{first_of, second_of, in_first}
 
 -- Whose figure a node takes: its cover's, if it has one.
@@ -33,13 +31,6 @@ module _ (M : Model) (G : Simulation) where
 module _ (m g : List ℕ) where
   abbrev pub nodes_of : ℕ
   nodes_of = node_count (model_of m) g
-
-  -- The bytes of a node and how many there are, as the code has them.
-  pub record Shaped (size nodes : ℕ) : Type 0 where
-    pub size_is : size ≡ node_size (variable_count m)
-    pub nodes-are : nodes ≡ nodes_of
-    pub small : size ≤ field_limit
-    pub few : nodes ≤ most_nodes
 
   abbrev pub own_start_row : List ℕ → List ℕ
   own_start_row row = fill nodes_of (own_start (model_of m) (simulation_of (model_of m) g)) row

@@ -4,17 +4,22 @@
 
 ghost use Rattle.std.specs.Prelude.{◌≡◌, ◌+◌, ◌*◌, ◌<◌, ◌≤◌, ◌^◌, eqb, length};
 ghost use Rattle.folder.specs.Fields.{field_limit};
-ghost use Rattle.folder.specs.Contents.{field, count_of};
+ghost use Rattle.folder.specs.Contents.{body, field, count_of};
 ghost use Rattle.folder.specs.Pick.{pick};
 ghost use Rattle.folder.specs.Tab.{fill};
+ghost use Rattle.model.specs.Layout.{variable_count};
 ghost use Rattle.model.specs.Limits.{most_records, most_commands};
 ghost use Rattle.model.specs.Model.{model_of};
 ghost use Rattle.model.specs.Valid.{Valid};
-ghost use Rattle.graph.specs.Limits.{units};
+ghost use Rattle.graph.specs.Limits.{units, most_nodes};
+ghost use Rattle.graph.specs.Simulation.{node_size, node_count};
+ghost use Rattle.graph.specs.Valid.{Valid as GraphValid};
 ghost use Rattle.sums.specs.Edges.{most_product, sum_at, EdgeFits, after, EdgesReady, best_of};
 ghost use Rattle.sums.specs.Tables.{Tables, weight_in, first_in, Light, figure_by};
+ghost use Rattle.sums.specs.Weighted.{Weighted, Ready};
 
 use graph::{COVERED, EXPANDED};
+use std::marker::Model;
 
 // Certainty, as rows have it.
 pub const UNITS: u32 = graph::UNITS as u32;
@@ -156,4 +161,86 @@ pub fn fill_tables(m: &[u8], weights: &mut [usize], firsts: &mut [usize])
         weights,
     );
     fill_firsts(folder::body(m, 3), firsts);
+}
+
+// An accepted graph with the tables of its model, as rounds over its edges read them. Two bodies are found once, since
+// every node's edges read them.
+#[derive(Drop)]
+pub struct WeightedGraph<'a> {
+    model: &'a [u8],
+    graph: &'a [u8],
+    weights: &'a [usize],
+    firsts: &'a [usize],
+    commands: &'a [u8],
+    edges: &'a [u8],
+}
+
+impl<'a> Model for WeightedGraph<'a> {
+    ghost Value = { Weighted };
+
+    ghost view = { λ s. record { model = s.model.now; graph = s.graph.now; weights = s.weights.now; firsts = s.firsts.now } };
+
+    ghost invariant = { λ s. GraphValid s.model.now s.graph.now × Tables (model_of s.model.now) s.weights.now s.firsts.now × (s.commands.now ≡ body s.model.now 3) × (s.edges.now ≡ body s.graph.now 1) };
+}
+
+impl<'a> WeightedGraph<'a> {
+    pub fn of(m: &'a [u8], g: &'a [u8], weights: &'a [usize], firsts: &'a [usize]) -> Self
+        requires valid { GraphValid m.now g.now }
+        requires tables { Tables (model_of m.now) weights.now firsts.now }
+        ensures { result ≡ record { model = m.now; graph = g.now; weights = weights.now; firsts = firsts.now } }
+    {
+        WeightedGraph {
+            model: m,
+            graph: g,
+            weights,
+            firsts,
+            commands: folder::body(m, 3),
+            edges: folder::body(g, 1),
+        }
+    }
+
+    // D.
+    pub fn total(&self) -> usize
+        ensures { (result ≡ (model_of self.now.model).total) × (0 < result) × (result < field_limit) }
+    {
+        total_of(self.model)
+    }
+
+    // The bytes of a node.
+    pub fn node_size(&self) -> usize
+        ensures { (result ≡ node_size (variable_count self.now.model)) × (0 < result) × (result ≤ field_limit) }
+    {
+        graph::node_size(graph::variable_count(self.model))
+    }
+
+    pub fn node_count(&self) -> usize
+        ensures value { result ≡ node_count (model_of self.now.model) self.now.graph }
+        ensures few { result ≤ most_nodes }
+        ensures ready { Ready self.now }
+    {
+        graph::node_count(self.model, self.graph)
+    }
+
+    // The body of nodes.
+    pub fn nodes(&self) -> &'a [u8]
+        ensures { result.now ≡ body self.now.graph 0 }
+    {
+        folder::body(self.graph, 0)
+    }
+
+    // The best of the `count` edges from `at` on.
+    pub fn best(&self, row: &[u32], at: usize, count: usize) -> Best
+        requires { EdgesReady (body self.now.model 3) (body self.now.graph 1) self.now.weights self.now.firsts (length row.now) at count }
+        ensures { (result.greatest ≡ best_of (body self.now.model 3) (body self.now.graph 1) self.now.weights self.now.firsts row.now at count) × (result.next ≡ after (body self.now.model 3) (body self.now.graph 1) at count) × (result.greatest < 2 ^ 52) }
+    {
+        best_of(
+            self.commands,
+            self.edges,
+            self.weights,
+            self.firsts,
+            row,
+            at,
+            count,
+        )
+    }
 }

@@ -14,20 +14,20 @@ begun c = c.fill.ensures (λ _. units) (λ i t l h. search rules)
 
 pub loop-init : goal.loop-init
 loop-init c =
-    (round-start c.args.m.now c.args.g.now c.args.row.now c.node_count-nodes.ensures (begun (goal.at.loop-init c).After-fill), omega (arith, c.requires.g_in_bounds, c.fill.auto.row))
+    (round-start c.args.s.now.model c.args.s.now.graph c.args.row.now c.node_count-nodes.ensures.value (begun (goal.at.loop-init c).After-fill), omega (arith, c.requires.g_in_bounds, c.fill.auto.row))
 
 pub sweep-requires : goal.sweep-requires
-sweep-requires c = record { valid = c.requires.valid; tables = c.requires.tables; starts = c.requires.starts; round = round-held c.requires.valid c.loop.counter _ c.loop.invariant.0 c.loop.invariant.1 }
+sweep-requires c = record { starts = c.requires.starts; round = round-held c.node_count-nodes.ensures.ready.valid c.loop.counter _ c.loop.invariant.0 c.loop.invariant.1 }
 
 pub returns-then-sweep : goal.returns-then-sweep
 returns-then-sweep c =
-    round-over c.args.m.now c.args.g.now c.args.row.now c.node_count-nodes.ensures (begun (goal.at.returns-then-sweep c).After-fill)
-    (settled-row c.requires.valid c.loop.counter _ c.loop.invariant.0 c.loop-test.true c.sweep.ensures.value c.sweep.ensures.row_after c.if-sweep.true) (le_refl c.args.rounds) (le_refl c.args.rounds)
+    round-over c.args.s.now.model c.args.s.now.graph c.args.row.now c.node_count-nodes.ensures.value (begun (goal.at.returns-then-sweep c).After-fill)
+    (settled-row c.node_count-nodes.ensures.ready.valid c.loop.counter _ c.loop.invariant.0 c.loop-test.true c.sweep.ensures.value c.sweep.ensures.row_after c.if-sweep.true) (le_refl c.args.rounds) (le_refl c.args.rounds)
 
 pub loop-preserved : goal.loop-preserved
 loop-preserved c =
-    (round-more c.requires.valid c.loop.counter _ c.loop.invariant.0 c.sweep.ensures.row_after, c.loop.invariant.1)
+    (round-more c.node_count-nodes.ensures.ready.valid c.loop.counter _ c.loop.invariant.0 c.sweep.ensures.row_after, c.loop.invariant.1)
 
 pub returns : goal.returns
 returns c =
-    round-over c.args.m.now c.args.g.now c.args.row.now c.node_count-nodes.ensures (begun (goal.at.returns c).After-fill) c.loop.invariant.0 (omega arith) (omega arith)
+    round-over c.args.s.now.model c.args.s.now.graph c.args.row.now c.node_count-nodes.ensures.value (begun (goal.at.returns c).After-fill) c.loop.invariant.0 (omega arith) (omega arith)

@@ -1,4 +1,4 @@
-use Rattle.std.proofs.Common.{◌≡◌, ℕ, ap, arith}
+use Rattle.std.proofs.Common.{ap, arith}
 use Rattle.model.specs.Model.{first_record}
 use Rattle.model_rules.specs.Bodies.{model_held}
 use Rattle.model_rules.proofs.CheckLaws.{added-up}

@@ -1,8 +1,5 @@
 use Rattle.std.proofs.Common.{arith, rules, sym, ap, ◌∙◌}
 use Rattle.folder.specs.Scan.{first_bad}
-use Rattle.expressions.specs.Entries.{entries_of}
-use Rattle.expressions.specs.Ranges.{bound_in}
-use Rattle.expressions.specs.Rules.{entry_fits, range_fits}
 use Rattle.model.specs.Rules.{variable_fits}
 use Rattle.model_rules.specs.Bodies.{model_held}
 use Rattle.model_rules.proofs.CheckLaws.{based, settled-all}
@@ -19,6 +16,6 @@ pub check_commands-requires : goal.check_commands-requires
 check_commands-requires c =
     let rows6 = row-told _ _ _ (c.check_scan-2.ensures _ (c.fill_ranges-ranged.ensures.value ∙ ap (first_bad _) (sym c.count_of-entries.ensures))) c.in_ok-check_scan-2.was in
     record {
-      held = settled-all _ _ c.fill_ranges-ranged.ensures.value (rw c.count_of-entries.ensures at rows6) _ _
-          c.fill_ranges-ranged.ensures.lows_after c.fill_ranges-ranged.ensures.highs_after (omega arith) (omega arith);
+      held = settled-all _ _ c.fill_ranges-ranged.ensures.value (rw c.count_of-entries.ensures at rows6) _
+          c.fill_ranges-ranged.ensures.row_after (omega arith);
     }

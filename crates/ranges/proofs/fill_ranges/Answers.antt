@@ -1,5 +1,4 @@
 use mathlib.Core.Path.{◌≡◌, refl, ◌∙◌, ap}
-use borrow.Author.Rules.{rules}
 use Rattle.folder.specs.Scan.{first_bad}
 use Rattle.folder.proofs.FillLaws.{fill-over}
 use Rattle.folder.proofs.ScanLaws.{scan-over}
@@ -8,21 +7,20 @@ use Rattle.ranges.proofs.FillLaws.{fill_start, fill-ranged, fill-found, fill-nex
 use Rattle.ranges.proofs.fill_ranges.Goals as goal
 
 pub loop-e-init : goal.loop-e-init
-loop-e-init c = fill_start _ _ _ _ _
+loop-e-init c = fill_start _ _ _ _
 
 pub range_of-r-requires : goal.range_of-r-requires
 range_of-r-requires c =
-    fill-ranged c.loop-e.invariant c.loop-e-test.true (omega arith) (omega arith) c.requires.based (omega arith)
+    fill-ranged c.loop-e.invariant c.loop-e-test.true (omega arith) c.requires.based (omega arith)
 
 pub loop-e-preserved : goal.loop-e-preserved
 loop-e-preserved c =
-    fill-next c.loop-e.invariant c.loop-e-test.true c.range_of-r.ensures c.in_limits.ensures (omega arith) (omega arith) (search rules) (search rules) c.if-not-in_limits.false
+    fill-next c.loop-e.invariant c.loop-e-test.true c.range_of-r.ensures c.in_limits.ensures (omega arith) c.if-not-in_limits.false
 
 pub returns-then-not-in_limits : goal.returns-then-not-in_limits
 returns-then-not-in_limits c = record {
   value = fill-found c.loop-e.invariant c.loop-e-test.true c.range_of-r.ensures c.in_limits.ensures c.if-not-in_limits.true ∙ ap (first_bad _) c.count_of-n.ensures;
-  lows_after = c.loop-e.invariant.low-row.is;
-  highs_after = c.loop-e.invariant.high-row.is;
+  row_after = c.loop-e.invariant.filled.is;
 }
 
 pub returns : goal.returns
@@ -30,6 +28,5 @@ returns c =
     let e : c.count_of-n.result ≡ c.loop-e.e = omega (arith, c.loop-e.invariant.scanned.within, c.loop-e-test.false) in
     record {
       value = e ∙ scan-over c.loop-e.invariant.scanned c.loop-e-test.false ∙ ap (first_bad _) c.count_of-n.ensures;
-      lows_after = fill-over c.loop-e.invariant.low-row c.loop-e-test.false refl;
-      highs_after = fill-over c.loop-e.invariant.high-row c.loop-e-test.false refl;
+      row_after = fill-over c.loop-e.invariant.filled c.loop-e-test.false refl;
     }

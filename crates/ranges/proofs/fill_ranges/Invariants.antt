@@ -2,4 +2,4 @@ use Rattle.ranges.proofs.FillLaws.{Filling}
 use Rattle.ranges.proofs.fill_ranges.Given as goal
 
 abbrev pub invariant-loop-e : goal.invariant-loop-e
-invariant-loop-e l = Filling l.x l.y l.initial.lows l.initial.highs l.n l.lows l.highs l.e
+invariant-loop-e l = Filling l.x l.y l.initial.row l.n l.row l.e

@@ -7,4 +7,4 @@ use Rattle.rounds.specs.Rounds.{own_next}
 use Rattle.rounds.proofs.fill_next.Given as goal
 
 abbrev pub invariant-loop-n : goal.invariant-loop-n
-invariant-loop-n l = Filled (own_next (model_of l.m) (simulation_of (model_of l.m) l.g) l.src) l.nodes l.initial.dst l.dst l.n × (l.at ≡ starts_at (model_of l.m) l.g l.n)
+invariant-loop-n l = Filled (own_next (model_of l.s.model) (simulation_of (model_of l.s.model) l.s.graph) l.src) l.nodes l.initial.dst l.dst l.n × (l.at ≡ starts_at (model_of l.s.model) l.s.graph l.n)

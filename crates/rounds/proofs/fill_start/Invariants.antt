@@ -5,4 +5,4 @@ use Rattle.rounds.specs.Rounds.{own_start}
 use Rattle.rounds.proofs.fill_start.Given as goal
 
 abbrev pub invariant-loop-n : goal.invariant-loop-n
-invariant-loop-n l = Filled (own_start (model_of l.m) (simulation_of (model_of l.m) l.g)) l.nodes l.initial.dst l.dst l.n
+invariant-loop-n l = Filled (own_start (model_of l.s.model) (simulation_of (model_of l.s.model) l.s.graph)) l.nodes l.initial.dst l.dst l.n

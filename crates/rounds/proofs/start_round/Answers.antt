@@ -5,4 +5,4 @@ use Rattle.rounds.proofs.start_round.Goals as goal
 
 pub returns : goal.returns
 returns c =
-    c.fill_covers.ensures ∙ ap (cover_row c.args.m.now c.args.g.now) c.fill_start.ensures ∙ start-both c.requires.valid c.args.dst.now
+    c.fill_covers.ensures.row ∙ ap (cover_row c.args.s.now.model c.args.s.now.graph) c.fill_start.ensures ∙ start-both c.fill_covers.ensures.valid c.args.dst.now

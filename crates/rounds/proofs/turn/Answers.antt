@@ -5,11 +5,11 @@ use Rattle.rounds.proofs.turn.Goals as goal
 
 pub next_round-requires : goal.next_round-requires
 unfolding held_in
-next_round-requires c = record { valid = c.requires.valid; tables = c.requires.tables; round = rw (eq-eqb _ _ c.if-k-eq0.true) at c.requires.round; g_in_bounds = c.requires.g_in_bounds.1 }
+next_round-requires c = record { round = rw (eq-eqb _ _ c.if-k-eq0.true) at c.requires.round; g_in_bounds = c.requires.g_in_bounds.1 }
 
 pub next_round-requires-else-k-eq0 : goal.next_round-requires-else-k-eq0
 unfolding held_in
-next_round-requires-else-k-eq0 c = record { valid = c.requires.valid; tables = c.requires.tables; round = rw (ne_eqb _ _ c.if-k-eq0.false) at c.requires.round; g_in_bounds = c.requires.g_in_bounds.0 }
+next_round-requires-else-k-eq0 c = record { round = rw (ne_eqb _ _ c.if-k-eq0.false) at c.requires.round; g_in_bounds = c.requires.g_in_bounds.0 }
 
 pub returns-then-k-eq0 : goal.returns-then-k-eq0
 unfolding turn_first turn_second
