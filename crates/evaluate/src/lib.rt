@@ -13,7 +13,7 @@ ghost use Rattle.expressions.specs.Levels.{number_at, truth_at};
 ghost use Rattle.expressions.specs.Meaning.{truth_in};
 ghost use Rattle.expressions.specs.Mentions.{missing, carry_n, carry_t, truth_reading};
 ghost use Rattle.expressions.specs.Operations.{arith_z, relates};
-ghost use Rattle.expressions.specs.Reading.{arith_n, choose_n, compare_n, not_t, and_t, or_t, join_t, look_in, reading, read_number, read_truth};
+ghost use Rattle.expressions.specs.Reading.{arith_n, choose_n, compare_n, not_t, and_t, or_t, join_t, look_in, reading, read_number, read_truth, is_true};
 ghost use Rattle.expressions.specs.Right.{IsTruth};
 ghost use Rattle.mentions.specs.Masked.{Masked};
 ghost use Rattle.evaluate.specs.Bounded.{Small, Bounded};
@@ -231,6 +231,16 @@ pub fn truth_at(
     }
 }
 
+// Whether a truth reads true: an unknown one does not.
+fn is_true(t: Option<bool>) -> bool
+    ensures { result ≡ is_true t }
+{
+    match t {
+        Some(b) => b,
+        None => false,
+    }
+}
+
 // Whether entry e holds in the state s, which is the label that tracks every variable: none is missing, so that none is
 // looked for.
 pub fn truth_in(x: &[u8], s: &[i64], e: usize) -> bool
@@ -239,9 +249,7 @@ pub fn truth_in(x: &[u8], s: &[i64], e: usize) -> bool
     requires e_le_field_limit { e ≤ field_limit }
     ensures { result ≡ truth_in (entries_of x.now) s.now e }
 {
-    read_truth(x, 0, &[], ALL_TRACKED, s, e, DEEPEST)
-        .ok()
-        .unwrap_or(false)
+    is_true(read_truth(x, 0, &[], ALL_TRACKED, s, e, DEEPEST).ok())
 }
 
 // The readings of all entries in one label, as two rows: `known` has 1 for an entry that reads known, else 0, and `values`
