@@ -1,7 +1,7 @@
 -- The loop that marks nodes as read.
 -- Assumes nothing.
 use Prim.Native.Nat.{ℕ, ◌+◌, ◌*◌, ◌<◌, ◌≤◌}
-use mathlib.Core.Path.{◌≡◌, refl, ◌∙◌, subst}
+use mathlib.Core.Path.{◌≡◌, refl, sym, ◌∙◌, subst}
 use mathlib.Core.List.{List}
 use native.Mathlib.Nat.{mul-suc, mul-le-mul_left}
 use native.Mathlib.Decide.{dec_lt}
@@ -10,9 +10,10 @@ use lib.ListN.{length}
 use Rattle.folder.specs.Fields.{field_limit}
 use Rattle.folder.specs.Contents.{field}
 use Rattle.graph.specs.Simulation.{node_size}
-use Rattle.put.proofs.PutLaws.{stays-none, stays_then}
+use Rattle.put.proofs.PutLaws.{stays-none, stays_then, stays-wider}
 use Rattle.held.specs.Held.{read_field, tracked_field, put_in, Whole}
 use Rattle.held.proofs.FieldLaws.{whole-at, put-here, put-there, put-within}
+use Rattle.wants.specs.Wants.{IsRead}
 use Rattle.repairs.specs.Marked.{AllMarked}
 
 pub mark-start : (vars from : ℕ) (nb : List ℕ) → AllMarked vars from from nb nb
@@ -48,6 +49,19 @@ module _ (vars from i : ℕ) {old now : List ℕ} (s : AllMarked vars from i old
       others = λ x f b d. put-there vars now i read_field u (omega arith) x f b (λ p r. let h = d r in omega arith) ∙ s.others x f b d;
       later = λ x b. put-there vars now i read_field u (omega arith) x read_field (omega arith) (λ p r. omega arith) ∙ s.later x (omega arith);
     })
+
+-- Nodes that are read already are passed.
+pub mark-skip : (vars from : ℕ) {i j : ℕ} {old now : List ℕ} → AllMarked vars from i old now → i ≤ j → from ≤ i → ((k : ℕ) → i ≤ k → k < j → IsRead vars now (0 + k)) → AllMarked vars from j old now
+mark-skip vars from {i = i} {j = j} {old = old} {now = now} s l started h = record {
+  stays = stays-wider (mul-le-mul_left (node_size vars) l) s.stays;
+  inside = λ x a b. either x a b (dec_lt x i);
+  others = s.others;
+  later = λ x b. s.later x (omega arith);
+}
+  where
+    either : (x : ℕ) → from ≤ x → x < j → Dec (x < i) → field (node_size vars) now x read_field ≡ field (node_size vars) old x tracked_field
+    either x a b (yes p) = s.inside x a p
+    either x a b (no p) = (let z : 0 + x ≡ x = omega arith in sym (rw z at (h x (omega arith) b))) ∙ s.others x tracked_field (omega arith) (λ q. absurd (omega arith))
 
 pub mark-over : (vars from : ℕ) {i end : ℕ} {old new : List ℕ} → AllMarked vars from i old new → i ≤ end → end ≤ i → AllMarked vars from end old new
 mark-over vars from {i = i} {end = end} {old = old} {new = new} s p q =

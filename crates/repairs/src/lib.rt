@@ -23,16 +23,19 @@ use graph::{COVERED, EXPANDED, TARGET};
 use nodes::{KIND, Move, READ, SET};
 use work::Work;
 
-// The nodes from `from` to below `end` are marked as read, with all that they track.
+// The nodes from `from` to below `end` are marked as read, with all that they track. Those that are read are passed.
 fn mark_read(vars: usize, nb: &mut [u8], from: usize, end: usize)
     requires vars_le_most_variables { (vars ≤ most_variables) × (from ≤ end) × (end ≤ field_limit) }
     requires end_in_bounds { node_size vars * end ≤ length nb.old }
     ensures { AllMarked vars from end nb.old nb.new }
 {
     let size = graph::node_size(vars);
-    for x in from..end {
+    // No `for`: a scan goes from one node that is not read to the next.
+    let mut x = wants::next_unread(vars, nb, 0, from, end);
+    while x < end {
         let set = folder::field(size, nb, x, SET);
         nodes::put_field(vars, nb, x, READ, set);
+        x = wants::next_unread(vars, nb, 0, x + 1, end);
     }
 }
 

@@ -4,6 +4,8 @@ use Prim.Native.Nat.{ℕ, ◌+◌, ◌<◌, ◌≤◌}
 use mathlib.Core.Path.{◌≡◌, refl, sym, ap, ◌∙◌}
 use mathlib.Core.Bool.{Bool, true, false, not, ◌&&◌, false≢true}
 use mathlib.Core.List.{List}
+use native.Mathlib.Decide.{dec_lt}
+use native.Mathlib.Omega.{arith}
 use Rattle.folder.specs.Contents.{body, count_of, field}
 use Rattle.expressions.specs.Reading.{has_bit}
 use Rattle.expressions.specs.Mentions.{carry_n, carry_t}
@@ -15,11 +17,12 @@ use Rattle.states.specs.Read.{is_known_number, reads_known}
 use Rattle.states.proofs.Reading.{read_number, read-truth}
 use Rattle.model.specs.Layout.{variable_count, branch_size}
 use Rattle.model.specs.Model.{Model, model_of}
+use Rattle.graph.specs.Simulation.{node_size}
 use Rattle.building.specs.First.{◌orelse◌, given, first}
 use Rattle.building.specs.Moves.{wanted_t, wanted_n}
-use Rattle.building.proofs.FirstLaws.{first-nowhere, Searched, search-next, search-found, search-over}
-use Rattle.held.specs.Held.{read_field, node_in, set_in, label_in, NodeHere}
-use Rattle.wants.specs.Wants.{truth_wants_in, number_wants_in, result_in, ReadBy}
+use Rattle.building.proofs.FirstLaws.{first-none, first-nowhere, Searched, search-next, search-found, search-over}
+use Rattle.held.specs.Held.{read_field, tracked_field, node_in, set_in, label_in, NodeHere}
+use Rattle.wants.specs.Wants.{truth_wants_in, number_wants_in, result_in, ReadBy, IsRead}
 use Rattle.std.specs.Prelude.{None, Some, Option}
 
 -- ---- searches
@@ -32,6 +35,14 @@ module _ {f : ℕ → Option ℕ} {n i : ℕ} {w : Option ℕ} (s : Searched f n
 
 pub search-end : {f : ℕ → Option ℕ} {n i : ℕ} → Searched f n i → n ≤ i → None ≡ first n f
 search-end s l = sym (search-over s l)
+
+-- Places where nothing is wanted are passed.
+pub search-skip : {f : ℕ → Option ℕ} {n i j : ℕ} → Searched f n i → j ≤ n → ((k : ℕ) → i ≤ k → k < j → f k ≡ None) → Searched f n j
+search-skip {f} {n} {i} {j} s l h = record { within = l; none_yet = first-nowhere f j (λ k b. either k b (dec_lt k i)) }
+  where
+    either : (k : ℕ) → k < j → Dec (k < i) → f k ≡ None
+    either k b (yes p) = first-none i f s.none_yet k p
+    either k b (no p) = h k (omega arith) b
 
 -- One of two.
 pub either-hit : {w : Option ℕ} {v : ℕ} (p q : Option ℕ) → w ≡ p → w ≡ Some v → Some v ≡ (p orelse q)
@@ -154,6 +165,22 @@ pub assigned-skips : {m nb : List ℕ} {n x r : ℕ} → ReadBy m nb n x r → (
 assigned-skips {m} {nb} {n} {x} {r} known v l f g h a =
     old-nothing (has_bit (set_in m nb x) v) (has_bit (node_in m nb x read_field) v) (number_wants_in m nb n ((model_of m).assigned r v)) (known.is v l) (sym (λ i. has_bit (f i) v && not (has_bit (g i) v)) ∙ sym h ∙ a)
 
+-- ---- nodes that are read
+module _ (vars : ℕ) (nb : List ℕ) (start from : ℕ) where
+  pub read-start : (k : ℕ) → from ≤ k → k < from → IsRead vars nb (start + k)
+  read-start k a b = absurd (omega arith)
+
+  module _ (i : ℕ) {size s r : ℕ} (h : (k : ℕ) → from ≤ k → k < i → IsRead vars nb (start + k)) (p : size ≡ node_size vars) (e : s ≡ field size nb (start + i) tracked_field) (f : r ≡ field size nb (start + i) read_field)
+      (q : s ≡ r) where
+    here-read : (k : ℕ) → from ≤ k → k < i + 1 → Dec (k < i) → IsRead vars nb (start + k)
+    here-read k a b (yes l) = h k a l
+    here-read k a b (no l) =
+        let z : k ≡ i = omega arith in
+        rw z (rw (sym p) (sym e ∙ q ∙ f))
+
+    pub read_next : (k : ℕ) → from ≤ k → k < i + 1 → IsRead vars nb (start + k)
+    read_next k a b = here-read k a b (dec_lt k i)
+
 -- ---- a child that is read wants nothing
 given_nothing : {A : Type 0} (b : Bool) (o : Option A) → (b ≡ true → o ≡ None) → given b o ≡ None
 unfolding given
@@ -165,3 +192,7 @@ unfolding result_in
 read-wants {m} {nb} {n} {x} {r} known p q e =
     let f : set_in m nb x ≡ node_in m nb x read_field = sym p ∙ e ∙ q in
     first-nowhere _ (model_of m).variables (λ v l. given_nothing (has_bit (set_in m nb x) v) _ (λ h. known.is v l (sym (ap (λ (s : ℕ). has_bit s v) f) ∙ h)))
+
+-- The same of one that is passed.
+pub is-read : {m nb : List ℕ} {n x r vars : ℕ} → vars ≡ variable_count m → ReadBy m nb n x r → IsRead vars nb x → result_in m nb n x r ≡ None
+is-read {nb = nb} {x = x} q known e = read-wants known (λ i. field (node_size (q i)) nb x tracked_field) (λ i. field (node_size (q i)) nb x read_field) e

@@ -12,11 +12,17 @@ use Rattle.model.specs.Model.{model_of, first_record}
 use Rattle.building.specs.First.{◌orelse◌, given, first}
 use Rattle.building.specs.Building.{enabled, before, births}
 use Rattle.building.specs.Moves.{wanted_t, wanted_n}
-use Rattle.held.specs.Held.{child_field, read_field, node_in, state_in, set_in, label_in, NodeHere}
+use Rattle.folder.specs.Contents.{field}
+use Rattle.graph.specs.Simulation.{node_size}
+use Rattle.held.specs.Held.{child_field, read_field, tracked_field, node_in, state_in, set_in, label_in, NodeHere}
 
 -- The row has what each entry mentions.
 abbrev pub MasksOf : List ℕ → List ℕ → Type 0
 MasksOf m masks = Masked (model_of m).entries (model_of m).entries.count masks
+
+-- All that node x tracks is marked as read by its parent.
+abbrev pub IsRead : ℕ → List ℕ → ℕ → Type 0
+IsRead vars nb x = field (node_size vars) nb x tracked_field ≡ field (node_size vars) nb x read_field
 
 module _ (m nb : List ℕ) (n : ℕ) where
   -- What entry e wants in the label of node n, as a truth and as a number.

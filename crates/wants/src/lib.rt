@@ -6,7 +6,7 @@
 ghost use Rattle.std.specs.Prelude.{◌≡◌, false, not, ◌&&◌, ℕ, ◌+◌, ◌<◌, ◌≤◌, length, None, IfOk};
 ghost use Rattle.std.specs.Result.{result_err};
 ghost use Rattle.folder.specs.Fields.{field_limit};
-ghost use Rattle.expressions.specs.Limits.{most_expressions};
+ghost use Rattle.expressions.specs.Limits.{most_expressions, most_variables};
 ghost use Rattle.expressions.specs.Reading.{has_bit};
 ghost use Rattle.expressions.specs.Right.{IsNumber, IsTruth};
 ghost use Rattle.expressions.specs.States.{lacked_by};
@@ -15,7 +15,7 @@ ghost use Rattle.states.specs.Read.{reads_known, Widened};
 ghost use Rattle.model.specs.Model.{model_of};
 ghost use Rattle.building.specs.First.{◌orelse◌, given, first};
 ghost use Rattle.held.specs.Held.{child_field, node_in, label_in, NodeHere};
-ghost use Rattle.wants.specs.Wants.{MasksOf, truth_wants_in, number_wants_in, guards_in, own_in, result_in, results_in, children_end, ReadBy, AllRead, LabelFlagged, StateSettled, NodeRead};
+ghost use Rattle.wants.specs.Wants.{MasksOf, IsRead, truth_wants_in, number_wants_in, guards_in, own_in, result_in, results_in, children_end, ReadBy, AllRead, LabelFlagged, StateSettled, NodeRead};
 
 use expressions::{MOST_EXPRESSIONS, MOST_VARIABLES};
 use nodes::{CHILD, READ, SET, STATE};
@@ -220,7 +220,24 @@ fn result_wants(
     None
 }
 
-// What the children of one command want, of which there are `count`. Those whose labels are marked as read want nothing.
+// Of the nodes from `start`, by number from there: the first, from `from` on, that tracks what is not marked as read; `end`
+// if there is none below it.
+pub fn next_unread(vars: usize, nb: &[u8], start: usize, from: usize, end: usize) -> usize
+    requires { (vars ≤ most_variables) × (from ≤ end) × (start + end ≤ field_limit) }
+    ensures lower_bound { (from ≤ result) × (result ≤ end) }
+    ensures by_index { (b : ℕ) → from ≤ b → b < result → IsRead vars nb.now (start + b) }
+{
+    let size = graph::node_size(vars);
+    for b in from..end {
+        let x = start + b;
+        if folder::field(size, nb, x, SET) != folder::field(size, nb, x, READ) {
+            return b;
+        }
+    }
+    end
+}
+
+// What the children of one command want, of which there are `count`. Those that are read want nothing, and are passed.
 fn branches_want(
     m: &[u8],
     nb: &[u8],
@@ -237,20 +254,18 @@ fn branches_want(
     ensures result_value { result ≡ first count (λ b. result_in m.now nb.now n (lead.node + b) (lead.record + b)) }
     ensures label_flagged { LabelFlagged m.now nb.now n known.new }
 {
-    let size = graph::node_size(graph::variable_count(m));
-    for b in 0..count {
+    let vars = graph::variable_count(m);
+    // No `for`: a scan goes from one child that is not read to the next.
+    let mut b = next_unread(vars, nb, lead.node, 0, count);
+    while b < count {
         let one = Lead {
             record: lead.record + b,
             node: lead.node + b,
         };
-        let set = folder::field(size, nb, one.node, SET);
-        let read = folder::field(size, nb, one.node, READ);
-        if set == read {
-            continue;
-        }
         if let Some(v) = result_wants(m, nb, n, masks, state, one, known) {
             return Some(v);
         }
+        b = next_unread(vars, nb, lead.node, b + 1, count);
     }
     None
 }
