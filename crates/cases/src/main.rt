@@ -11,7 +11,7 @@ use samples::build::{MOST_NUMBERS, Numbers, fold, holds, split};
 use solver::{Asked, Folders};
 use std::io;
 use std::io::Read;
-use tally::{Run, answer_at};
+use tally::{Run, answer, answer_at};
 use witness::{Built, box_steps, build_case, figure_case, summary_case, zero_step};
 
 // The longest model and the longest graph, and one byte more of each.
@@ -75,18 +75,19 @@ fn figure_at(row: &[u32], k: usize) -> usize {
     row.get(k).map_or(0, |x| *x as usize)
 }
 
-// Figures that are not as due: where one is not, it is told, and else how many there are.
-fn row_case<R: Print>(run: &mut Run<R>, f: Folders, h: usize, due: &[usize]) -> io::Result<()> {
+// Figures that are not as due: the first that is not is told, and where only the lengths differ, the most numbers.
+fn row_case<R: Print>(run: &mut Run<R>, f: Folders, h: usize, due: &Numbers) -> io::Result<()> {
     let mut first = [9u32; 8];
     let mut second = [9u32; 8];
     let row = laguipy::figure(f.model, f.graph, h, &mut first, &mut second);
-    let same = row
+    let each = &due.each;
+    let same = each
         .iter()
-        .zip(due)
-        .take_while(|(x, y)| **x as usize == **y)
+        .enumerate()
+        .take_while(|(k, x)| figure_at(row, *k) == **x)
         .count();
     run.hold(
-        same == row.len() && same == due.len(),
+        same == MOST_NUMBERS && row.len() == due.count,
         same,
         figure_at(row, same),
     )
@@ -115,13 +116,19 @@ fn answer_due(d: &Numbers) -> Result<(), Refusal> {
 }
 
 // A line's answer of the build call has no second place: what stands there is the length of the graph built.
-fn built_due(d: &Numbers) -> Result<Built, Refusal> {
-    let d = &d.each;
-    answer_at(d[0], d[1], 0)?;
-    Ok(Built {
+fn build_line<R: Print>(
+    run: &mut Run<R>,
+    m: &[u8],
+    asked: &Numbers,
+    due: &Numbers,
+) -> io::Result<()> {
+    let a = &asked.each;
+    let d = &due.each;
+    let built = Built {
         length: d[2],
         summary: summary_of([d[3], d[4], d[5], d[6], d[7]]),
-    })
+    };
+    build_case(run, m, a[0], a[1], answer(d[0], d[1]), built)
 }
 
 // By the plain call and by the struct.
@@ -130,7 +137,7 @@ fn record_case<R: Print>(
     m: &[u8],
     e: usize,
     i: usize,
-    due: &[usize],
+    due: &Numbers,
 ) -> io::Result<()> {
     let plain = laguipy::record_part(m, e, i);
     let held = view::record_of(m, e, i);
@@ -156,9 +163,9 @@ fn value_case<R: Print>(
 ) -> io::Result<()> {
     let a = &asked.each;
     match kind {
-        b'r' => row_case(run, f, a[0], due.written()),
+        b'r' => row_case(run, f, a[0], due),
         b'c' => summary_case(run, f, summary_due(due)),
-        b'v' => record_case(run, f.model, a[1], a[2], due.written()),
+        b'v' => record_case(run, f.model, a[1], a[2], due),
         b'h' => {
             let h = hash_of(asked.written()) as usize;
             run.hold(h == due.each[0], h, 0)
@@ -174,8 +181,9 @@ fn index_line<R: Print>(
     due: &Numbers,
 ) -> io::Result<()> {
     let a = &asked.each;
-    let batch = asked.written().get(ROWS..).unwrap_or(&[]);
-    index_case(run, f, [a[0], a[1], a[2]], batch, answer_due(due))
+    let values = a.get(ROWS..).unwrap_or(&[]);
+    let n = asked.count.saturating_sub(ROWS);
+    index_case(run, f, [a[0], a[1], a[2]], values, n, answer_due(due))
 }
 
 fn step_asked(asked: &Numbers) -> Asked {
@@ -206,7 +214,7 @@ fn asked_case<R: Print>(
         }
         b'f' => figure_case(run, f, a[0], a[1], a[2], answer_due(due)),
         b'i' => index_line(run, f, asked, due),
-        b'B' => build_case(run, f.model, a[0], a[1], built_due(due)),
+        b'B' => build_line(run, f.model, asked, due),
         b's' => zero_step(run, f.model, step_asked(asked)),
         b'b' => box_steps(run, f.model),
         _ => value_case(run, f, kind, asked, due),
@@ -252,7 +260,7 @@ fn line<R: Print>(
     let body = past(line, 2);
     let mut after = lengths;
     match text.first().copied() {
-        None | Some(b'\n' | b'#') => (),
+        None | Some(0 | b'\n' | b'#') => (),
         Some(b'=') => run.close_group(body)?,
         Some(b'M') => after.model = fold(room, 5, body),
         Some(b'G') => after.graph = fold(past_mut(room, GRAPH), 2, body),

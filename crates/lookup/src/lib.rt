@@ -8,7 +8,7 @@ use folder::Refusal;
 use graph::{MOST_NODES, SLOTS};
 use solver::{Folders, MOST_VARIABLES, State, small};
 use std::io;
-use tally::Run;
+use tally::{Run, number_of};
 
 // What every row holds before the call.
 const BEFORE: u16 = 9;
@@ -16,29 +16,33 @@ const BEFORE: u16 = 9;
 // Values of a batch at most.
 const MOST_VALUES: usize = 31;
 
+fn element(row: &[u16], k: usize) -> u16 {
+    row.get(k).copied().unwrap_or(0)
+}
+
 // From element n on the row holds what it held.
 fn kept_from(row: &[u16], n: usize) -> bool {
     row.iter().skip(n).all(|x| *x == BEFORE)
 }
 
 // The node that a slot or an answer names: its greatest number stands for none.
-fn named(x: u16) -> Option<usize> {
-    (x != u16::MAX).then_some(usize::from(x))
+fn named(x: u16) -> Option<u16> {
+    (x != u16::MAX).then_some(x)
 }
 
 // Node n goes into the next slot from p on that is free, round the end.
-fn put(due: &mut [Option<usize>; SLOTS], p: usize, n: usize) {
+fn put(due: &mut [Option<u16>; SLOTS], p: usize, n: usize) {
     for d in 0..SLOTS {
         let q = p.saturating_add(d) % SLOTS;
         if due[q].is_none() {
-            due[q] = Some(n);
+            due[q] = u16::try_from(n).ok();
             return;
         }
     }
 }
 
 // Node n enters if its label is new.
-fn enter(due: &mut [Option<usize>; SLOTS], f: Folders, n: usize) {
+fn enter(due: &mut [Option<u16>; SLOTS], f: Folders, n: usize) {
     let s = f.concrete(n);
     if f.first_like(&s, n, false).is_none() {
         put(due, solver::hash_of(&s, solver::variables(f.model)), n);
@@ -79,22 +83,21 @@ fn batch_of(values: &[usize]) -> [i16; MOST_VALUES] {
 
 // The answer to a state is the lowest node with the label, or none.
 fn answer_right(f: Folders, values: &[usize], x: u16) -> bool {
-    named(x) == f.first_like(&state_of(values), f.nodes(), false)
+    named(x).map(usize::from) == f.first_like(&state_of(values), f.nodes(), false)
 }
 
-// Answers to the states of the batch, and after them what the row held.
-fn answers_right(f: Folders, batch: &[usize], row: &[u16]) -> bool {
+// State k of a batch, of so many values.
+fn values_of(values: &[usize], vars: usize, k: usize) -> &[usize] {
+    let rest = values.get(vars.saturating_mul(k)..).unwrap_or(&[]);
+    front(rest, vars)
+}
+
+// Answers to the states of a batch of n values, and after them what the row held.
+fn answers_right(f: Folders, values: &[usize], n: usize, row: &[u16]) -> bool {
     let vars = solver::variables(f.model);
-    if vars == 0 {
-        return kept_from(row, 0);
-    }
-    let n = batch.len() / vars;
-    let states = batch.chunks_exact(vars);
-    n <= row.len()
-        && states
-            .zip(row)
-            .all(|(values, x)| answer_right(f, values, *x))
-        && kept_from(row, n)
+    let states = n.checked_div(vars).unwrap_or(0);
+    (0..states).all(|k| answer_right(f, values_of(values, vars, k), element(row, k)))
+        && kept_from(row, states)
 }
 
 // Node n is uncovered, and a lower uncovered one has its label.
@@ -109,12 +112,14 @@ fn listing_right(f: Folders, count: usize, row: &[u16]) -> bool {
     twins.eq(listed) && count <= row.len() && kept_from(row, count)
 }
 
-// The index call on rows of these lengths and this batch. Refused, all rows stay.
+// The index call on rows of these lengths and a batch of n values, of which 0 stands for those that are not there. Refused,
+// all rows stay.
 pub fn index_case<R: Print>(
     run: &mut Run<R>,
     f: Folders,
     rooms: [usize; 3],
     values: &[usize],
+    n: usize,
     due: Result<(), Refusal>,
 ) -> io::Result<()> {
     let mut slots = [BEFORE; SLOTS + 1];
@@ -125,15 +130,15 @@ pub fn index_case<R: Print>(
         f.model,
         f.graph,
         front_mut(&mut slots, rooms[0]),
-        front(&batch, values.len()),
+        front(&batch, n),
         front_mut(&mut answers, rooms[1]),
         front_mut(&mut listing, rooms[2]),
     );
     run.judge(r.map(|_| ()), due)?;
     let listed = r.unwrap_or(0);
-    let right = if due.is_ok() {
+    let right = if number_of(due) == 0 {
         slots_right(f, &slots)
-            && answers_right(f, values, &answers)
+            && answers_right(f, values, n, &answers)
             && listing_right(f, listed, &listing)
     } else {
         kept_from(&slots, 0) && kept_from(&answers, 0) && kept_from(&listing, 0)
@@ -147,5 +152,5 @@ pub fn index_as<R: Print>(
     f: Folders,
     due: Result<(), Refusal>,
 ) -> io::Result<()> {
-    index_case(run, f, [SLOTS, 0, MOST_NODES], &[], due)
+    index_case(run, f, [SLOTS, 0, MOST_NODES], &[], 0, due)
 }

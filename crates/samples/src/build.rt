@@ -1,5 +1,5 @@
 // Folders and numbers from text. All writing is total: past the buffer's end nothing happens.
-use clamped::{field, front, front_mut, long};
+use clamped::{byte, field, front, long};
 use std::array;
 
 // What a field of 2 bytes stays below.
@@ -134,11 +134,16 @@ impl Pen {
         }
     }
 
-    fn digit(&mut self, d: u8) {
-        let number = self.number.unwrap_or(Number {
+    // The number that was begun, or one that begins.
+    fn begun(&self) -> Number {
+        self.number.unwrap_or(Number {
             mark: Mark::Plain,
             value: 0,
-        });
+        })
+    }
+
+    fn digit(&mut self, d: u8) {
+        let number = self.begun();
         let value = number
             .value
             .saturating_mul(10)
@@ -146,8 +151,9 @@ impl Pen {
         self.number = Some(Number { value, ..number });
     }
 
-    fn begin(&mut self, mark: Mark) {
-        self.number = Some(Number { mark, value: 0 });
+    fn mark(&mut self, mark: Mark) {
+        let number = self.begun();
+        self.number = Some(Number { mark, ..number });
     }
 
     // One character: a digit; `-`, `~` or `#` before a number; `[` after one, and `]`; `|` between bodies. Others end a
@@ -155,9 +161,9 @@ impl Pen {
     fn take(&mut self, out: &mut [u8], c: u8) {
         match c {
             b'0'..=b'9' => self.digit(c - b'0'),
-            b'-' => self.begin(Mark::Negative),
-            b'~' => self.begin(Mark::Back),
-            b'#' => self.begin(Mark::Long),
+            b'-' => self.mark(Mark::Negative),
+            b'~' => self.mark(Mark::Back),
+            b'#' => self.mark(Mark::Long),
             b'[' => self.open_group(),
             b']' => {
                 self.end_number(out);
@@ -216,19 +222,19 @@ impl Numbers {
         front(&self.each, self.count)
     }
 
-    // The pairs of an offset after `base` and a value, from number `from` on, written into their fields. Done again with
-    // what it leaves here, it is undone.
+    // The pairs of an offset after `base` and a value, from number `from` on, written into their fields: also the last
+    // offset, where no value follows. Done again with what it leaves here, it is undone.
     pub fn change(&mut self, out: &mut [u8], base: usize, from: usize) {
-        let n = self.count;
-        let pairs = front_mut(&mut self.each, n);
-        if let Some(pairs) = pairs.get_mut(from..) {
-            exchange_all(pairs, out, base);
+        let n = self.count.saturating_sub(from).div_ceil(2);
+        if let Some(numbers) = self.each.get_mut(from..) {
+            exchange_all(numbers, n, out, base);
         }
     }
 }
 
-fn exchange_all(pairs: &mut [usize], out: &mut [u8], base: usize) {
-    for pair in pairs.chunks_exact_mut(2) {
+// The first n pairs.
+fn exchange_all(numbers: &mut [usize], n: usize, out: &mut [u8], base: usize) {
+    for pair in numbers.chunks_exact_mut(2).take(n) {
         if let [offset, value] = pair {
             *value = exchanged(out, base.saturating_add(*offset), *value);
         }
@@ -248,9 +254,14 @@ pub fn split(s: &[u8], c: u8) -> (&[u8], &[u8]) {
     s.split_at(n)
 }
 
-// Whether a part holds these bytes.
-pub fn holds(part: &[u8], bytes: &[usize]) -> bool {
-    part.len() == bytes.len() && part.iter().zip(bytes).all(|(x, y)| usize::from(*x) == *y)
+// Whether a part holds these bytes: of a longer one, those that there are numbers for.
+pub fn holds(part: &[u8], bytes: &Numbers) -> bool {
+    let each = &bytes.each;
+    part.len() == bytes.count
+        && each
+            .iter()
+            .enumerate()
+            .all(|(i, x)| usize::from(byte(part, i)) == *x)
 }
 
 // Document 01's pedal example.

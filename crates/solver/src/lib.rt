@@ -17,6 +17,9 @@ const CERTAIN: usize = 1000000000;
 
 const LEVELS: usize = 12;
 
+// A number x means ZERO + x, and a truth 1 or 0: on a model that the check refuses, a number is not taken for a truth.
+const ZERO: usize = 1099511627776;
+
 const FNV_START: u32 = 2166136261;
 
 const FNV_PRIME: u32 = 16777619;
@@ -145,33 +148,53 @@ fn branch_part(m: &[u8], r: usize, i: usize) -> usize {
     )
 }
 
+// What a number means, and the number that a meaning is.
+fn meant(x: i64) -> usize {
+    (ZERO as i64).saturating_add(x).max(0) as usize
+}
+
+fn number(x: usize) -> i64 {
+    i64::try_from(x)
+        .unwrap_or(i64::MAX)
+        .saturating_sub(ZERO as i64)
+}
+
+fn times(x: usize, y: usize) -> usize {
+    let n = x.abs_diff(ZERO).saturating_mul(y.abs_diff(ZERO));
+    if (x < ZERO) == (y < ZERO) {
+        ZERO.saturating_add(n)
+    } else {
+        ZERO.saturating_sub(n)
+    }
+}
+
 // Operations of two parts.
-fn joined(op: Operation, x: i64, y: i64) -> i64 {
+fn joined(op: Operation, x: usize, y: usize) -> usize {
     match op {
-        Operation::Sum => x.saturating_add(y),
-        Operation::Difference => x.saturating_sub(y),
-        Operation::Product => x.saturating_mul(y),
+        Operation::Sum => x.saturating_add(y).saturating_sub(ZERO),
+        Operation::Difference => x.saturating_add(ZERO).saturating_sub(y),
+        Operation::Product => times(x, y),
         Operation::Least => x.min(y),
         Operation::Greatest => x.max(y),
-        Operation::Equal => i64::from(x == y),
-        Operation::Less => i64::from(x < y),
-        Operation::AtMost => i64::from(x <= y),
-        Operation::And => x.min(y),
-        Operation::Or => x.max(y),
+        Operation::Equal => usize::from(x == y),
+        Operation::Less => usize::from(x < y),
+        Operation::AtMost => usize::from(x <= y),
+        Operation::And => x.saturating_mul(y),
+        Operation::Or => usize::from(x.saturating_add(y) > 0),
         _ => 0,
     }
 }
 
-// Entry e in a state, a truth as 1 or 0; 0 once the fuel is spent.
-fn meaning(m: &[u8], s: &State, e: usize, fuel: usize) -> i64 {
+// Entry e in a state; 0 once the fuel is spent.
+fn meaning(m: &[u8], s: &State, e: usize, fuel: usize) -> usize {
     if fuel == 0 {
         return 0;
     }
     match Operation::from(part(m, e, 0)) {
-        Operation::Number => signed(m, part_at(m, e, 1)),
-        Operation::Variable => s.get(part(m, e, 1)).copied().unwrap_or(0),
+        Operation::Number => meant(signed(m, part_at(m, e, 1))),
+        Operation::Variable => meant(s.get(part(m, e, 1)).copied().unwrap_or(0)),
         Operation::Always => 1,
-        Operation::Not => 1i64.saturating_sub(meaning(m, s, part(m, e, 1), fuel - 1)),
+        Operation::Not => 1usize.saturating_sub(meaning(m, s, part(m, e, 1), fuel - 1)),
         Operation::Choice => {
             let i = if meaning(m, s, part(m, e, 1), fuel - 1) == 1 {
                 2
@@ -249,21 +272,23 @@ pub fn next(m: &[u8], s: &State, c: usize, b: usize) -> State {
     let n = variables(m);
     array::from_fn(|i| {
         if i < n {
-            meaning(m, s, branch_part(m, r, i.saturating_add(1)), LEVELS)
+            number(meaning(m, s, branch_part(m, r, i.saturating_add(1)), LEVELS))
         } else {
             0
         }
     })
 }
 
-// The first variable whose value is outside its range.
+// The first variable whose value is outside its range. Of variables that a state has no room for, so is the first.
 fn first_outside(m: &[u8], s: &State) -> Option<usize> {
     let low = of_variables(m, 0);
     let high = of_variables(m, 1);
-    front(s, variables(m))
+    let i = s
         .iter()
         .zip(low.iter().zip(high.iter()))
         .position(|(x, (low, high))| *x < *low || *high < *x)
+        .unwrap_or(MOST_VARIABLES);
+    (i < variables(m)).then_some(i)
 }
 
 fn due(number: usize, place: usize) -> Result<State, Refused> {

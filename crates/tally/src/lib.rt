@@ -23,13 +23,14 @@ pub struct Run<'a, R> {
     place: usize,
 }
 
-// An answer with one place: the second is 0. Number 0 stands for acceptance.
+// An answer with one place: the second is 0.
 pub fn answer(number: usize, place: usize) -> Result<(), Refusal> {
     answer_at(number, place, 0)
 }
 
+// Number 0 stands for acceptance, which has no place: with one it is an answer that no call gives.
 pub fn answer_at(number: usize, place: usize, second: usize) -> Result<(), Refusal> {
-    if number == 0 {
+    if number == 0 && place == 0 && second == 0 {
         return Ok(());
     }
     Err(Refusal {

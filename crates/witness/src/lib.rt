@@ -118,7 +118,8 @@ fn kept<R: Print>(
     second: &[u32],
 ) -> io::Result<()> {
     let same = first.iter().chain(second).all(|x| *x == BEFORE);
-    run.hold(same == due.is_err(), number_of(due), 0)
+    let number = number_of(due);
+    run.hold(same == (number != 0), number, 0)
 }
 
 // By the call that writes nothing, and by the one that writes.
@@ -233,25 +234,26 @@ fn build_in<R: Print>(
     rounds: usize,
     room: usize,
     s: &mut [u8],
-    due: Result<Built, Refusal>,
+    due: Result<(), Refusal>,
+    built: Built,
 ) -> io::Result<()> {
     let a = laguipy::build(m, rounds, front_mut(s, room));
-    run.judge(a.map(|_| ()), due.map(|_| ()))?;
-    match (a, due) {
-        (Ok(n), Ok(due)) => built_case(run, m, s, n, due),
-        (Ok(n), Err(_)) => run.hold(false, n, 0),
-        (Err(_), _) => run.hold(unwritten(s, 0), 0, 0),
+    run.judge(a.map(|_| ()), due)?;
+    match a {
+        Ok(n) => built_case(run, m, s, n, built),
+        Err(_) => run.hold(unwritten(s, 0), 0, 0),
     }
 }
 
-// The build call on a slice of that room.
+// The build call on a slice of that room: its answer, and of a graph built, whatever answer is due, what it is due to be.
 pub fn build_case<R: Print>(
     run: &mut Run<R>,
     m: &[u8],
     rounds: usize,
     room: usize,
-    due: Result<Built, Refusal>,
+    due: Result<(), Refusal>,
+    built: Built,
 ) -> io::Result<()> {
     let mut slice = [UNWRITTEN; SLICE];
-    build_in(run, m, rounds, room, &mut slice, due)
+    build_in(run, m, rounds, room, &mut slice, due, built)
 }
