@@ -7,7 +7,7 @@ use clamped::{front, long};
 use folder::Refusal;
 use graph::Summary;
 use lookup::index_case;
-use samples::build::{MOST_NUMBERS, Numbers, fold, holds, split};
+use samples::build::{MOST_NUMBERS, Numbers, fold, holds_numbers, split};
 use solver::{Asked, Folders};
 use std::io;
 use std::io::Read;
@@ -142,7 +142,7 @@ fn record_case<R: Print>(
     let plain = laguipy::record_part(m, e, i);
     let held = view::record_of(m, e, i);
     run.hold(
-        holds(plain, due) && holds(held, due),
+        holds_numbers(plain, due) && holds_numbers(held, due),
         plain.len(),
         long(plain, 0),
     )

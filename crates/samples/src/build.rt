@@ -254,8 +254,13 @@ pub fn split(s: &[u8], c: u8) -> (&[u8], &[u8]) {
     s.split_at(n)
 }
 
-// Whether a part holds these bytes: of a longer one, those that there are numbers for.
-pub fn holds(part: &[u8], bytes: &Numbers) -> bool {
+// Whether a part holds these bytes.
+pub fn holds(part: &[u8], bytes: &[usize]) -> bool {
+    part.len() == bytes.len() && part.iter().zip(bytes).all(|(x, y)| usize::from(*x) == *y)
+}
+
+// Whether a part holds the bytes of a line: of a longer one, those that there are numbers for.
+pub fn holds_numbers(part: &[u8], bytes: &Numbers) -> bool {
     let each = &bytes.each;
     part.len() == bytes.count
         && each
@@ -281,4 +286,33 @@ pub fn pedal_graph(out: &mut [u8]) -> usize {
         b"1 0 #10000000 2 1 0 0 0 0  1 0 #0 0 1 3 0 3 0  1 0 #100000000 1 1 1 0 1 0 \
         2 0 #10000000 0 1 0 1 0 0  2 1 #0 0 1 3 0 3 0  3 0 #1000000000 0 1 2 0 2 0 | 0 1 2  1 3  0 4 5",
     )
+}
+
+#[cfg(test)]
+mod tests {
+    use super::*;
+
+    // More bytes than a line has numbers for, of which the last may differ.
+    fn long_part(last: u8) -> [u8; MOST_NUMBERS + 3] {
+        array::from_fn(|i| { if i == MOST_NUMBERS + 2 { last } else { 7 } })
+    }
+
+    #[test]
+    fn holds_all_of_a_part(rt: HostRuntime) {
+        let sevens = [7; MOST_NUMBERS + 3];
+        let cases: [(&[u8], &[usize], bool); 7] = [
+            (b"", &[], true),
+            (b"ab", &[97, 98], true),
+            (b"ab", &[97, 99], false),
+            (b"ab", &[97], false),
+            (b"ab", &[97, 98, 0], false),
+            (b"ab", &[97, 354], false),
+            (b"ab", &[], false),
+        ];
+        for (part, bytes, due) in cases {
+            assert_eq!(rt; holds(part, bytes), due);
+        }
+        assert!(rt; holds(&long_part(7), &sevens));
+        assert!(rt; !holds(&long_part(8), &sevens));
+    }
 }
