@@ -13,12 +13,20 @@ pub const MOST_VARIABLES: usize = 16;
 // The value of each variable; past the last, 0.
 pub type State = [i64; MOST_VARIABLES];
 
+// What the values of a state mean.
+type Meanings = [usize; MOST_VARIABLES];
+
 const CERTAIN: usize = 1000000000;
 
 const LEVELS: usize = 12;
 
 // A number x means ZERO + x, and a truth 1 or 0: on a model that the check refuses, a number is not taken for a truth.
 const ZERO: usize = 1099511627776;
+
+// The least number that has such a meaning, and the meaning of the greatest number.
+const LEAST: i64 = -1099511627776;
+
+const MOST: usize = ZERO + i64::MAX as usize;
 
 const FNV_START: u32 = 2166136261;
 
@@ -148,15 +156,13 @@ fn branch_part(m: &[u8], r: usize, i: usize) -> usize {
     )
 }
 
-// What a number means, and the number that a meaning is.
+// What a number from `LEAST` on means, and the number that a meaning is, or the greatest.
 fn meant(x: i64) -> usize {
-    (ZERO as i64).saturating_add(x).max(0) as usize
+    ZERO.wrapping_add(x.cast_unsigned() as usize)
 }
 
 fn number(x: usize) -> i64 {
-    i64::try_from(x)
-        .unwrap_or(i64::MAX)
-        .saturating_sub(ZERO as i64)
+    x.min(MOST).wrapping_sub(ZERO).cast_signed() as i64
 }
 
 fn times(x: usize, y: usize) -> usize {
@@ -185,18 +191,128 @@ fn joined(op: Operation, x: usize, y: usize) -> usize {
     }
 }
 
-// Entry e in a state; 0 once the fuel is spent.
-fn meaning(m: &[u8], s: &State, e: usize, fuel: usize) -> usize {
+// The same of plain numbers, with a truth as 1 or 0.
+fn joined_plainly(op: Operation, x: i64, y: i64) -> i64 {
+    match op {
+        Operation::Sum => x.saturating_add(y),
+        Operation::Difference => x.saturating_sub(y),
+        Operation::Product => x.saturating_mul(y),
+        Operation::Least => x.min(y),
+        Operation::Greatest => x.max(y),
+        Operation::Equal => i64::from(x == y),
+        Operation::Less => i64::from(x < y),
+        Operation::AtMost => i64::from(x <= y),
+        Operation::And => x.min(y),
+        Operation::Or => x.max(y),
+        _ => 0,
+    }
+}
+
+// What an entry means: as a usize, as said at ZERO; and plainly, for values that are too low for that.
+trait Sense: Copy {
+    fn of_number(x: i64) -> Self;
+
+    fn of_truth(b: bool) -> Self;
+
+    fn is_true(self) -> bool;
+
+    fn not(self) -> Self;
+
+    fn join(op: Operation, x: Self, y: Self) -> Self;
+
+    fn value(self) -> i64;
+}
+
+// What a variable means, of what a state holds.
+trait Read<V>: Sense {
+    fn read(x: V) -> Self;
+}
+
+impl Sense for usize {
+    fn of_number(x: i64) -> usize {
+        meant(x)
+    }
+
+    fn of_truth(b: bool) -> usize {
+        usize::from(b)
+    }
+
+    fn is_true(self) -> bool {
+        self == 1
+    }
+
+    fn not(self) -> usize {
+        1usize.saturating_sub(self)
+    }
+
+    fn join(op: Operation, x: usize, y: usize) -> usize {
+        joined(op, x, y)
+    }
+
+    fn value(self) -> i64 {
+        number(self)
+    }
+}
+
+impl Read<i64> for usize {
+    fn read(x: i64) -> usize {
+        meant(x)
+    }
+}
+
+impl Read<usize> for usize {
+    fn read(x: usize) -> usize {
+        x
+    }
+}
+
+impl Sense for i64 {
+    fn of_number(x: i64) -> i64 {
+        x
+    }
+
+    fn of_truth(b: bool) -> i64 {
+        i64::from(b)
+    }
+
+    fn is_true(self) -> bool {
+        self == 1
+    }
+
+    fn not(self) -> i64 {
+        1i64.saturating_sub(self)
+    }
+
+    fn join(op: Operation, x: i64, y: i64) -> i64 {
+        joined_plainly(op, x, y)
+    }
+
+    fn value(self) -> i64 {
+        self
+    }
+}
+
+impl Read<i64> for i64 {
+    fn read(x: i64) -> i64 {
+        x
+    }
+}
+
+// Entry e in a state; a false truth once the fuel is spent.
+fn meaning<V: Copy, T: Read<V>>(m: &[u8], s: &[V; MOST_VARIABLES], e: usize, fuel: usize) -> T {
     if fuel == 0 {
-        return 0;
+        return T::of_truth(false);
     }
     match Operation::from(part(m, e, 0)) {
-        Operation::Number => meant(signed(m, part_at(m, e, 1))),
-        Operation::Variable => meant(s.get(part(m, e, 1)).copied().unwrap_or(0)),
-        Operation::Always => 1,
-        Operation::Not => 1usize.saturating_sub(meaning(m, s, part(m, e, 1), fuel - 1)),
+        Operation::Number => T::of_number(signed(m, part_at(m, e, 1))),
+        Operation::Variable => match s.get(part(m, e, 1)) {
+            Some(x) => T::read(*x),
+            None => T::of_number(0),
+        },
+        Operation::Always => T::of_truth(true),
+        Operation::Not => meaning::<V, T>(m, s, part(m, e, 1), fuel - 1).not(),
         Operation::Choice => {
-            let i = if meaning(m, s, part(m, e, 1), fuel - 1) == 1 {
+            let i = if meaning::<V, T>(m, s, part(m, e, 1), fuel - 1).is_true() {
                 2
             } else {
                 3
@@ -206,17 +322,30 @@ fn meaning(m: &[u8], s: &State, e: usize, fuel: usize) -> usize {
         op => {
             let x = meaning(m, s, part(m, e, 1), fuel - 1);
             let y = meaning(m, s, part(m, e, 2), fuel - 1);
-            joined(op, x, y)
+            T::join(op, x, y)
         }
     }
 }
 
+// Whether every value of a state means a usize.
+fn has_room(s: &State) -> bool {
+    s.iter().fold(true, |all, x| all & (LEAST <= *x))
+}
+
+fn holds(m: &[u8], s: &State, e: usize) -> bool {
+    if has_room(s) {
+        meaning::<i64, usize>(m, s, e, LEVELS).is_true()
+    } else {
+        meaning::<i64, i64>(m, s, e, LEVELS).is_true()
+    }
+}
+
 pub fn is_target(m: &[u8], s: &State) -> bool {
-    meaning(m, s, target(m), LEVELS) == 1
+    holds(m, s, target(m))
 }
 
 pub fn enabled(m: &[u8], s: &State, c: usize) -> bool {
-    meaning(m, s, guard(m, c), LEVELS) == 1
+    holds(m, s, guard(m, c))
 }
 
 // Branch 0 of command c, as a branch record.
@@ -266,17 +395,25 @@ pub fn hash_of(s: &State, n: usize) -> usize {
     front(s, n).iter().fold(FNV_START, |h, x| hashed(h, *x)) as usize
 }
 
-// The state that a branch gives; all its entries read the old one.
-pub fn next(m: &[u8], s: &State, c: usize, b: usize) -> State {
-    let r = first_branch(m, c).saturating_add(b);
+// The state that branch record r gives; all its entries read the old one.
+fn after<T: Read<i64>>(m: &[u8], s: &State, r: usize) -> State {
     let n = variables(m);
     array::from_fn(|i| {
         if i < n {
-            number(meaning(m, s, branch_part(m, r, i.saturating_add(1)), LEVELS))
+            meaning::<i64, T>(m, s, branch_part(m, r, i.saturating_add(1)), LEVELS).value()
         } else {
             0
         }
     })
+}
+
+pub fn next(m: &[u8], s: &State, c: usize, b: usize) -> State {
+    let r = first_branch(m, c).saturating_add(b);
+    if has_room(s) {
+        after::<usize>(m, s, r)
+    } else {
+        after::<i64>(m, s, r)
+    }
 }
 
 // The first variable whose value is outside its range. Of variables that a state has no room for, so is the first.
@@ -319,10 +456,22 @@ fn power(d: usize, k: usize) -> usize {
     (0..k).fold(1usize, |p, _| p.saturating_mul(d))
 }
 
+// The meanings that branch record r gives, whatever room a state has for them.
+fn meant_after(m: &[u8], s: &Meanings, r: usize) -> Meanings {
+    let n = variables(m);
+    array::from_fn(|i| {
+        if i < n {
+            meaning(m, s, branch_part(m, r, i.saturating_add(1)), LEVELS)
+        } else {
+            ZERO
+        }
+    })
+}
+
 // P(k, s): the greatest over the enabled commands.
 #[cycle(chance_sum)]
-fn chance(m: &[u8], s: &State, k: usize) -> usize {
-    if is_target(m, s) {
+fn chance(m: &[u8], s: &Meanings, k: usize) -> usize {
+    if meaning::<usize, usize>(m, s, target(m), LEVELS).is_true() {
         return power(total(m), k);
     }
     if k == 0 {
@@ -330,7 +479,7 @@ fn chance(m: &[u8], s: &State, k: usize) -> usize {
     }
     let mut best = 0;
     for c in 0..commands(m) {
-        if enabled(m, s, c) {
+        if meaning::<usize, usize>(m, s, guard(m, c), LEVELS).is_true() {
             best = sum(m, s, k - 1, c).max(best);
         }
     }
@@ -339,12 +488,13 @@ fn chance(m: &[u8], s: &State, k: usize) -> usize {
 
 // The sum over the branches of command c, with k steps to go after it.
 #[cycle(chance_sum)]
-fn sum(m: &[u8], s: &State, k: usize, c: usize) -> usize {
+fn sum(m: &[u8], s: &Meanings, k: usize, c: usize) -> usize {
     let first = first_branch(m, c);
     let mut all = 0usize;
     for b in 0..branches(m, c) {
-        let after = next(m, s, c, b);
-        let weight = branch_part(m, first.saturating_add(b), 0);
+        let r = first.saturating_add(b);
+        let after = meant_after(m, s, r);
+        let weight = branch_part(m, r, 0);
         all = all.saturating_add(weight.saturating_mul(chance(m, &after, k)));
     }
     all
@@ -352,7 +502,7 @@ fn sum(m: &[u8], s: &State, k: usize, c: usize) -> usize {
 
 // P(k, s) times S.
 fn scaled(m: &[u8], s: &State, k: usize) -> usize {
-    chance(m, s, k).saturating_mul(CERTAIN)
+    chance(m, &s.map(meant), k).saturating_mul(CERTAIN)
 }
 
 // D to the power k, where it times S units, and k units more, stays within 64 bits.
@@ -417,6 +567,8 @@ impl<'a> Folders<'a> {
     }
 
     // The figures of round h, one for each node. Not tried where the numbers are past 64 bits.
+    // Kept out of its callers, whose rows then share their room on the stack.
+    #[inline(never)]
     pub fn try_figures(self, h: usize, figures: &[u32]) -> Option<bool> {
         let d = scale(self.model, h)?;
         let holds = figures.len() == self.nodes()
@@ -425,5 +577,115 @@ impl<'a> Folders<'a> {
                 .enumerate()
                 .all(|(i, figure)| self.node_holds(h, d, i, *figure));
         Some(holds)
+    }
+}
+
+#[cfg(test)]
+mod tests {
+    use super::*;
+
+    // Two variables from 0 to 9, and a target: that the first is less than the second. Four commands: one has the target
+    // for its guard, and sets the variables to the second and to their sum; the guard of one reads values 14 and 15, past
+    // the model's; one is always enabled, and sets them to a number past 2^63 less 5 and to the number; and the guard
+    // of the last is the number 1.
+    const MODEL: [u16; 109] = [
+        40, 0, 4, 0, 44, 0, 12, 0, 56, 0, 128, 0, 184, 0, 16, 0, 200, 0, 18, 0, 1, 2, 0, 9, 0, 0,
+        9, 0, 1, 0, 0, 0, 1, 1, 0, 0, 9, 0, 1, 0, 2, 0, 1, 0, 1, 14, 0, 0, 1, 15, 0, 0, 9, 4, 5, 0,
+        14, 0, 0, 0, 0, 32768, 0, 0, 4, 8, 8, 0, 4, 9, 9, 0, 0, 9, 0, 0, 4, 10, 11, 0, 0, 5, 0, 0,
+        3, 12, 13, 0, 0, 1, 0, 0, 2, 1, 6, 1, 7, 1, 15, 0, 1, 1, 3, 1, 0, 1, 1, 14, 12,
+    ];
+
+    // One node, all 0.
+    const GRAPH: [u8; 36] = [
+        16, 0, 0, 0, 20, 0, 0, 0, 36, 0, 0, 0, 0, 0, 0, 0, 0, 0, 0, 0, 0, 0, 0, 0, 0, 0, 0, 0, 0,
+        0, 0, 0, 0, 0, 0, 0,
+    ];
+
+    fn model() -> [u8; 218] {
+        array::from_fn(|i| MODEL.get(i / 2).map_or(0, |w| w.to_le_bytes()[i % 2]))
+    }
+
+    // Values i and i + 1 are these, the others 0.
+    fn state(i: usize, x: i64, y: i64) -> State {
+        array::from_fn(|k| {
+            if k == i {
+                x
+            } else if k == i.saturating_add(1) {
+                y
+            } else {
+                0
+            }
+        })
+    }
+
+    // Pairs of values, whether the first is less, and their sum.
+    const PAIRS: [(i64, i64, bool, i64); 7] = [
+        (3, 5, true, 8),
+        (5, 3, false, 8),
+        (-1099511627777, -1099511627776, true, -2199023255553),
+        (-1099511627776, -1099511627777, false, -2199023255553),
+        (i64::MAX - 1, i64::MAX, true, i64::MAX),
+        (i64::MIN, i64::MIN + 1, true, i64::MIN),
+        (i64::MIN, i64::MAX, true, -1),
+    ];
+
+    #[test]
+    fn reads_every_value(rt: HostRuntime) {
+        let m = model();
+        for (x, y, less, sum) in PAIRS {
+            let s = state(0, x, y);
+            assert_eq!(rt; enabled(&m, &s, 0), less);
+            assert_eq!(rt; is_target(&m, &s), less);
+            assert!(rt; next(&m, &s, 0, 0) == state(0, y, sum));
+        }
+    }
+
+    #[test]
+    fn takes_a_number_for_a_truth_by_plain_values(rt: HostRuntime) {
+        let m = model();
+        for (x, plain) in [
+            (0, false),
+            (LEAST, false),
+            (LEAST - 1, true),
+            (i64::MAX, false),
+        ] {
+            assert_eq!(rt; enabled(&m, &state(0, 0, x), 3), plain);
+        }
+    }
+
+    #[test]
+    fn tries_the_greatest_values(rt: HostRuntime) {
+        let m = model();
+        let f = Folders {
+            model: &m,
+            graph: &GRAPH,
+        };
+        assert!(rt; f.try_root(0) == Some(true));
+        assert!(rt; f.try_root(1) == Some(false));
+        assert!(rt; f.try_figures(1, &[1000000000]) == Some(true));
+        assert!(rt; f.try_figures(1, &[0]) == Some(false));
+    }
+
+    #[test]
+    fn steps_by_every_value(rt: HostRuntime) {
+        let m = model();
+        let asked = Asked {
+            values: 2,
+            room: 2,
+            command: 1,
+            branch: 0,
+        };
+        for (x, y, less, _) in PAIRS {
+            match step(&m, &state(14, x, y), asked) {
+                Ok(after) => {
+                    assert!(rt; less);
+                    assert!(rt; after == state(0, 0, 0));
+                }
+                Err(f) => {
+                    assert!(rt; !less);
+                    assert_eq!(rt; f.number, 32);
+                }
+            }
+        }
     }
 }

@@ -1,4 +1,4 @@
 use Rattle.solver.proofs.+meaning.Given as goal
 
 abbrev pub decreases-meaning : goal.decreases-meaning
-decreases-meaning l = l.fuel
+decreases-meaning g l = l.fuel
