@@ -24,7 +24,7 @@ const LEVELS: usize = 12;
 const ZERO: usize = 1099511627776;
 
 // The least number that has such a meaning, and the meaning of the greatest number.
-const LEAST: i64 = -1099511627776;
+const LEAST: i64 = -(ZERO as i64);
 
 const MOST: usize = ZERO + i64::MAX as usize;
 
@@ -208,7 +208,7 @@ fn joined_plainly(op: Operation, x: i64, y: i64) -> i64 {
     }
 }
 
-// What an entry means: as a usize, as said at ZERO; and plainly, for values that are too low for that.
+// What an entry means: a usize, as said at ZERO, or plainly a number, for states with a value below `LEAST`.
 trait Sense: Copy {
     fn of_number(x: i64) -> Self;
 
@@ -456,7 +456,7 @@ fn power(d: usize, k: usize) -> usize {
     (0..k).fold(1usize, |p, _| p.saturating_mul(d))
 }
 
-// The meanings that branch record r gives, whatever room a state has for them.
+// The same of meanings, which may be past what a state has room for.
 fn meant_after(m: &[u8], s: &Meanings, r: usize) -> Meanings {
     let n = variables(m);
     array::from_fn(|i| {
@@ -622,8 +622,8 @@ mod tests {
     const PAIRS: [(i64, i64, bool, i64); 7] = [
         (3, 5, true, 8),
         (5, 3, false, 8),
-        (-1099511627777, -1099511627776, true, -2199023255553),
-        (-1099511627776, -1099511627777, false, -2199023255553),
+        (LEAST - 1, LEAST, true, 2 * LEAST - 1),
+        (LEAST, LEAST - 1, false, 2 * LEAST - 1),
         (i64::MAX - 1, i64::MAX, true, i64::MAX),
         (i64::MIN, i64::MIN + 1, true, i64::MIN),
         (i64::MIN, i64::MAX, true, -1),
@@ -662,7 +662,7 @@ mod tests {
         };
         assert!(rt; f.try_root(0) == Some(true));
         assert!(rt; f.try_root(1) == Some(false));
-        assert!(rt; f.try_figures(1, &[1000000000]) == Some(true));
+        assert!(rt; f.try_figures(1, &[CERTAIN as u32]) == Some(true));
         assert!(rt; f.try_figures(1, &[0]) == Some(false));
     }
 
