@@ -456,7 +456,7 @@ fn power(d: usize, k: usize) -> usize {
     (0..k).fold(1usize, |p, _| p.saturating_mul(d))
 }
 
-// The same of meanings, which may be past what a state has room for.
+// What branch record r gives of meanings, which may be past what a state has room for.
 fn meant_after(m: &[u8], s: &Meanings, r: usize) -> Meanings {
     let n = variables(m);
     array::from_fn(|i| {
